@@ -1,0 +1,38 @@
+-- The refusals of a table and of a sentence: document 01, 'Numbers handed back', codes 2 to 15.
+use Prim.Native.Nat.{ℕ}
+use Rattle.meaning.specs.declared.Refusal.{Refusal}
+use Rattle.meaning.specs.declared.Refusal.the-variants.{Short, Mark, Version, Range, Category, Function, Symbol, Twice, Missing, Start, Trailing, Long, Odd, ZeroWord}
+
+-- the column 'Code'
+abbrev pub codeOf : Refusal → ℕ
+codeOf (Short p) = 2
+codeOf Mark = 3
+codeOf Version = 4
+codeOf (Range p) = 5
+codeOf (Category p) = 6
+codeOf (Function p) = 7
+codeOf (Symbol p) = 8
+codeOf (Twice p) = 9
+codeOf (Missing p) = 10
+codeOf (Start p) = 11
+codeOf (Trailing p) = 12
+codeOf Long = 13
+codeOf (Odd p) = 14
+codeOf (ZeroWord p) = 15
+
+-- the column 'Place'; where it hangs on the input, the definition that refuses says it
+abbrev pub placeOf : Refusal → ℕ
+placeOf (Short p) = p
+placeOf Mark = 0
+placeOf Version = 3
+placeOf (Range p) = p
+placeOf (Category p) = p
+placeOf (Function p) = p
+placeOf (Symbol p) = p
+placeOf (Twice p) = p
+placeOf (Missing p) = p
+placeOf (Start p) = p
+placeOf (Trailing p) = p
+placeOf Long = 64
+placeOf (Odd p) = p
+placeOf (ZeroWord p) = p

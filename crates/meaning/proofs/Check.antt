@@ -17,7 +17,7 @@ use Rattle.meaning.specs.Chart.{Known, Entry, tallest, Way, Before, Give
 use Rattle.meaning.specs.Reading.{goal, Verdict, yes-at, no-goal}
 use Rattle.meaning.proofs.Order.{each-at, each-map}
 use Rattle.meaning.proofs.Theory.{Saturated}
-use Rattle.meaning.proofs.Sentence.{chart-of}
+use Rattle.meaning.proofs.Charts.{chart-of}
 use Rattle.meaning.proofs.Tests.{both, implies, modus, all, all-each, any, any-some, eqs, eqs→eq, eqs-refl, lexb, lexb→lex, lex→lexb}
 use Rattle.meaning.proofs.Search.{outcomes, mem-outcomes, outcomes-mem, tuples, mem-tuples, tuples-mem}
 

@@ -104,7 +104,7 @@ module _ {G : Grammar} (v : Valid G) where
   held-items (A ∷ As) e h zero (suc (suc zero)) = refl
   held-items (A ∷ As) e h zero (suc (suc (suc c))) = h zero (suc (suc (suc c))) (omega (arith, v .small A))
 
-  spell-dimension : {t : Tree} {A : ℕ} → Of G t A → length (spell t) ≡ dimension G A
+  pub spell-dimension : {t : Tree} {A : ℕ} → Of G t A → length (spell t) ≡ dimension G A
   unfolding spell
   spell-dimension (of {r = r} m e o) = length-map (r .rows) _ ∙ v .linear m .dim ∙ ap (dimension G) (sym e)
 

@@ -5,7 +5,7 @@ pub mod Spans
 pub mod Laws
 pub mod Theory
 pub mod Growth
-pub mod Sentence
+pub mod Charts
 pub mod Fields
 pub mod Ends
 pub mod Functions
@@ -15,4 +15,9 @@ pub mod Decoded
 pub mod Search
 pub mod Check
 pub mod Writer
-pub mod Reading
+pub mod OneTree
+pub mod Walk
+pub mod Determined
+pub mod Yes
+pub mod Passing
+pub mod Worked

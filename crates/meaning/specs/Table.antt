@@ -10,7 +10,6 @@ use Rattle.meaning.specs.declared.Refusal.the-variants.{Short, Mark, Ver
 
 infixl 20 _>>=_
 infixl 20 _>>_
-
 -- what reading a part gives: a value, or the first refusal
 pub data Got (A : Type 0) : Type 0 where
   got : A → Got A

@@ -1,0 +1,72 @@
+-- What the proofs of the table's reading share.
+use Prim.Native.Nat.{ℕ, zero, suc, _+_, _-_, _≤_, _<_}
+use mathlib.Core.Path.{_≡_, sym, ap, _∙_, refl}
+use mathlib.Core.List.{List, _∷_}
+use mathlib.Core.Bool.{Bool, true, false, _||_}
+use lib.ListN.{length, getD, set}
+use lib.Seq.{getD-set-same, getD-set-other}
+use lib.Dec.{eqb}
+use native.Mathlib.Omega.{arith}
+use native.Mathlib.Numerals.{add-one}
+use Rattle.meaning.specs.declared.Refusal.{Refusal}
+use Rattle.meaning.specs.Table.{Got, got, refused, _>>=_, times, any, member}
+use Rattle.table.specs.Views.{firsts}
+
+-- what a callee answered, where a match has shown it
+pub knew : {A B : Type 0} (f : A → B) {r v : A} {x : B} → f r ≡ x → r ≡ v → x ≡ f v
+knew f e g = sym e ∙ ap f g
+
+pub knew-with : {A B C : Type 0} (f : A → C → B) (z : C) {r v : A} {x : B} → f r z ≡ x → r ≡ v → x ≡ f v z
+knew-with f z e g = sym e ∙ ap (λ a. f a z) g
+
+-- what a callee's flag says, where a test has shown it
+pub told : {A : Type 0} {r x b : A} → r ≡ x → r ≡ b → x ≡ b
+told e g = sym e ∙ g
+
+-- a loop that counts down, each turn a step of `times`
+module _ {S : Type 0} (f : S → Got S) (n : ℕ) (s : S) where
+  pub none-left : n ≡ 0 → times n f s ≡ got s
+  unfolding times
+  none-left e = rw e
+
+  turn : 0 < n → times n f s ≡ f s >>= times (n - 1) f
+  unfolding times
+  turn h = let e : n ≡ suc (n - 1) = omega arith in ap (λ (m : ℕ). times m f s) e
+
+  pub turn-on : (s′ : S) → 0 < n → f s ≡ got s′ → times n f s ≡ times (n - 1) f s′
+  turn-on s′ h e = turn h ∙ rw e
+
+  pub turn-out : (r : Refusal) → 0 < n → f s ≡ refused r → times n f s ≡ refused r
+  turn-out r h e = turn h ∙ rw e
+
+-- the same for a search that counts down
+module _ (p : ℕ → Bool) (n : ℕ) where
+  pub any-none : n ≡ 0 → any n p ≡ false
+  unfolding any
+  any-none e = rw e
+
+  any-turn : 0 < n → any n p ≡ p (n - 1) || any (n - 1) p
+  unfolding any
+  any-turn h = let e : n ≡ suc (n - 1) = omega arith in ap (λ (m : ℕ). any m p) e
+
+  pub any-on : 0 < n → p (n - 1) ≡ false → any n p ≡ any (n - 1) p
+  any-on h e = any-turn h ∙ rw e
+
+  pub any-out : 0 < n → p (n - 1) ≡ true → any n p ≡ true
+  any-out h e = any-turn h ∙ rw e
+
+pub member-any : (x n : ℕ) (xs : List ℕ) → member x (firsts n xs) ≡ any n (λ i. eqb (getD xs i 0) x)
+unfolding member firsts any
+member-any x zero xs = refl
+member-any x (suc n) xs = ap (λ (b : Bool). eqb (getD xs n 0) x || b) (member-any x n xs)
+
+-- a store past the first numbers leaves them, and the store after them adds one
+firsts-keep : (m i v : ℕ) (xs : List ℕ) → m ≤ i → firsts m (set xs i v) ≡ firsts m xs
+unfolding firsts
+firsts-keep zero i v xs h = refl
+firsts-keep (suc m) i v xs h =
+    rw (getD-set-other xs i m v 0 (λ (e : m ≡ i). omega arith), firsts-keep m i v xs (omega arith))
+
+pub firsts-set : (n v : ℕ) (xs : List ℕ) → n < length xs → firsts (n + 1) (set xs n v) ≡ v ∷ firsts n xs
+unfolding firsts
+firsts-set n v xs h = rw (add-one, getD-set-same xs n v 0 h, firsts-keep n n v xs (omega arith))

@@ -1,2 +1,3 @@
 pub mod Level
 pub mod Search
+pub mod Keys

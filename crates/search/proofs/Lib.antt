@@ -1,3 +1,4 @@
 pub mod Filling
 pub mod Levels
 pub mod Keys
+pub mod Whole

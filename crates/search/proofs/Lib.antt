@@ -1,4 +1,5 @@
 pub mod Filling
+pub mod Parts
 pub mod Levels
 pub mod Keys
 pub mod Whole

@@ -1,3 +1,4 @@
 pub mod Level
 pub mod Search
 pub mod Keys
+pub mod Spots

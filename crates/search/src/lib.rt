@@ -1,4 +1,11 @@
 // The search: level by level all items that can be made, as packed items in chart order.
+mod spots;
+
+pub use spots::Spots;
+pub use spots::first;
+pub use spots::next;
+pub use spots::spots_of;
+
 ghost use mathlib.Core.Path.{_≡_};
 ghost use Prim.Native.Nat.{ℕ, _+_, _*_, _<_, _≤_, _^_};
 ghost use Rattle.search.specs.Level.{Ready, Filled};

@@ -1,5 +1,6 @@
 pub mod Filling
 pub mod Parts
 pub mod Levels
+pub mod Steps
 pub mod Keys
 pub mod Whole

@@ -45,3 +45,18 @@ pub record Level (Gv : ℕ → List ℕ → ℕ → Type 0) (K : List ℕ) (h x 
   pub among : Each (λ c. Mem c K) codes
   pub gives : Gv function (map keyOf codes) x
   pub high : tallest (map keyed codes) ≡ h
+
+-- a search that has come to height h, with k keys found in b and room for more in f
+pub record Begun (Mk : ℕ → ℕ → Type 0) (room h k : ℕ) (b f : List ℕ) : Type 0 where
+  pub exact : Exact Mk (take k b) h
+  pub small : room ≤ 2000
+  pub count : k ≤ room
+  pub fits : room ≤ length b
+  pub fits-fresh : room ≤ length f
+  pub levels : h ≤ k
+
+-- one level more: the first k are now the first k + r; or that was all; or there are too many
+pub data Advanced (Mk : ℕ → ℕ → Type 0) (room h k : ℕ) (b : List ℕ) (r : ℕ) : Type 0 where
+  on : 0 < r → k + r ≤ room → Exact Mk (take (k + r) b) (h + 1) → Advanced Mk room h k b r
+  done : r ≡ 0 → All Mk (take k b) → Advanced Mk room h k b r
+  beyond : room < k + r → More Mk room → Advanced Mk room h k b r

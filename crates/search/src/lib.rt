@@ -7,8 +7,12 @@ pub use spots::next;
 pub use spots::spots_of;
 
 ghost use mathlib.Core.Path.{_≡_};
-ghost use Prim.Native.Nat.{ℕ, _+_, _*_, _<_, _≤_, _^_};
+ghost use Prim.Native.Nat.{ℕ, _+_, _-_, _*_, _<_, _≤_, _^_};
+ghost use lib.ListN.{length};
+ghost use Rattle.meaning.specs.Table.{got, checkTable};
 ghost use Rattle.search.specs.Level.{Ready, Filled};
+ghost use Rattle.search.specs.Search.{Level, Found, Begun, Advanced};
+ghost use Rattle.search.specs.Keys.{KeyMade, KeyGiven, Asked};
 
 // Enters the key x at height h unless it is there.
 fn enter(known: &[u64], fresh: &mut [u64], n: usize, h: u64, x: u64) -> usize
@@ -19,4 +23,52 @@ fn enter(known: &[u64], fresh: &mut [u64], n: usize, h: u64, x: u64) -> usize
         return n;
     }
     store::put(fresh, n, x * 2048 + h)
+}
+
+// One level: what all rules give from the known items, of which the tallest has height h.
+fn level(table: &[u8], words: &[u16], known: &[u64], fresh: &mut [u64], h: u64) -> usize
+    requires { ⌜ Asked (now table) (now words) (now known) h ⌝ }
+    ensures { λ q. ⌜ Filled (now (known .entry)) (h + 1) (Level (KeyGiven (now (table .entry)) (now (words .entry))) (now (known .entry)) h) (now (fresh .entry)) 0 (now (fresh .exit)) q ⌝ }
+{
+    0
+}
+
+// One level more: how many items are new, or more than there is room for.
+fn advance(table: &[u8], words: &[u16], known: &mut [u64], k: usize, fresh: &mut [u64], room: usize, h: u64) -> usize
+    requires { ⌜ Begun (KeyMade (now table) (now words)) room h k (now known) (now fresh) ⌝ }
+    requires { ⌜ (checkTable (now table) ≡ got tt) × (length (now words) ≤ 64) ⌝ }
+    ensures { λ r. ⌜ Advanced (KeyMade (now (table .entry)) (now (words .entry))) room h k (now (known .exit)) r ⌝ }
+{
+    let left = room - k;
+    let m = level(table, words, &known[..k], &mut fresh[..left], h);
+    if left < m {
+        return m;
+    }
+    if m == 0 {
+        return 0;
+    }
+    let t = k + m;
+    store::merge(&mut known[..t], k, &fresh[..m]);
+    m
+}
+
+// All items that can be made, in chart order, in the first of known; or one more than the room.
+pub fn search(table: &[u8], words: &[u16], known: &mut [u64], room: usize) -> usize
+    requires { ⌜ (checkTable (now table) ≡ got tt) × (length (now words) ≤ 64) × (room ≤ 2000) × (room ≤ length (now known)) ⌝ }
+    ensures { λ r. ⌜ Found (KeyMade (now (table .entry)) (now (words .entry))) room (now (known .exit)) r ⌝ }
+{
+    let mut fresh = [0u64; 2000];
+    let mut k = 0;
+    let mut h = 0;
+    loop {
+        let m = advance(table, words, known, k, &mut fresh, room, h);
+        if m == 0 {
+            return k;
+        }
+        if room - k < m {
+            return room + 1;
+        }
+        k += m;
+        h += 1;
+    }
 }

@@ -1,0 +1,6 @@
+pub mod Joins
+pub mod Runs
+pub mod Values
+pub mod Turns
+pub mod Fit
+pub mod RuleThere

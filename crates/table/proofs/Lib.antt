@@ -1,3 +1,3 @@
 pub mod Laws
-pub mod Marks
+pub mod Uses
 pub mod Known

@@ -7,13 +7,13 @@ use lib.ListN.{length, getD}
 use Rattle.meaning.specs.declared.Refusal.{Refusal}
 use Rattle.meaning.specs.declared.Refusal.the-variants.{Short}
 use Rattle.meaning.specs.Table.{Got, got, refused, Used, rankOf, daughterOf, dimensionOf}
-use Rattle.table.specs.declared.Cursor.{Cursor}
-use Rattle.table.specs.declared.Field.{Field}
-use Rattle.table.specs.declared.Field.the-variants.{Read, Cut}
-use Rattle.table.specs.declared.SymbolField.{SymbolField}
-use Rattle.table.specs.declared.SymbolField.the-variants.{Three, Fewer}
-use Rattle.table.specs.declared.Step.{Step}
-use Rattle.table.specs.declared.Step.the-variants.{Next, Refused}
+use Rattle.table.specs.declared.cursor.Cursor.{Cursor}
+use Rattle.table.specs.declared.cursor.Field.{Field}
+use Rattle.table.specs.declared.cursor.Field.the-variants.{Read, Cut}
+use Rattle.table.specs.declared.cursor.SymbolField.{SymbolField}
+use Rattle.table.specs.declared.cursor.SymbolField.the-variants.{Three, Fewer}
+use Rattle.table.specs.declared.cursor.Step.{Step}
+use Rattle.table.specs.declared.cursor.Step.the-variants.{Next, Refused}
 use Rattle.table.specs.declared.Verdict.{Verdict}
 use Rattle.table.specs.declared.Verdict.the-variants.{Valid, Invalid}
 

@@ -1,3 +1,4 @@
 pub mod Laws
 pub mod Uses
 pub mod Known
+pub mod Sentence

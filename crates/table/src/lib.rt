@@ -1,6 +1,7 @@
 // The check of a rule table and of a sentence's words, and the reading of a table that is accepted.
 ghost use mathlib.Core.Path.{_≡_};
 ghost use Rattle.meaning.specs.Table as spec;
+ghost use Rattle.meaning.specs.Decode.{checkInput};
 ghost use Rattle.table.specs.Views.{verdictOf};
 use crate::cursor::Step;
 use crate::header::header;
@@ -13,6 +14,7 @@ mod marks;
 mod rows;
 mod rules;
 mod walk;
+mod words;
 
 pub use bytes::byte_at;
 pub use bytes::number_at;
@@ -20,6 +22,8 @@ pub use bytes::size;
 pub use walk::row_end;
 pub use walk::rule_end;
 pub use walk::rule_place;
+pub use words::check_words;
+pub use words::read_words;
 
 // What was checked: that it is valid, or the first refusal in document 01's order.
 pub enum Verdict {
@@ -52,5 +56,15 @@ pub fn check_table(table: &[u8]) -> Verdict
                 }
             }
         },
+    }
+}
+
+// What a table and a sentence are answered: the table's refusal, or else that of the words.
+pub fn check_input(table: &[u8], words: &[u8]) -> Verdict
+    ensures { λ r. ⌜ verdictOf r ≡ checkInput (now (table .entry)) (now (words .entry)) ⌝ }
+{
+    match check_table(table) {
+        Verdict::Invalid(why) => Verdict::Invalid(why),
+        Verdict::Valid => check_words(words),
     }
 }

@@ -1,32 +1,29 @@
 use borrow.Author.Needs.{needs}
 use native.Mathlib.Omega.{arith}
 use mathlib.Core.Path.{_≡_, sym, _∙_}
-use denote.Ref.{now}
-use Rattle.meaning.specs.Decode.{past, ruleEnd, firstRule}
-use Rattle.meaning.proofs.Places.{past-turn, past-none, past-next, first-is, rule-grows′}
+use Rattle.meaning.specs.Decode.{past, ruleEnd}
+use Rattle.meaning.proofs.Places.{past-turn, past-none, past-next, rule-grows′}
+use Rattle.table.specs.Walk.{placeOf}
 use Rattle.table.proofs.walk.rule_place.Statement.{statement}
 use Rattle.table.proofs.walk.rule_place.Tie as tie
 
 abbrev Inv-loop : tie.InvT-loop
-Inv-loop table i at₀ left₀ at left = past i (ruleEnd table) (firstRule table) ≡ past left (ruleEnd table) at
+Inv-loop table i at₀ left₀ at left = placeOf table i ≡ past left (ruleEnd table) at
 
 abbrev μ-loop : tie.MeasureT-loop
 μ-loop table i at₀ left₀ at left = left
 
-byte-at-requires : tie.Need-byte-at-requires Inv-loop μ-loop
-byte-at-requires c κs = search needs
-
-size-requires : tie.Need-size-requires Inv-loop μ-loop
-size-requires c κs = search needs
-
-add-at : tie.Need-add-at Inv-loop μ-loop
-add-at c = omega arith
+first-rule-requires : tie.Need-first-rule-requires Inv-loop μ-loop
+first-rule-requires c κs = search needs
 
 loop-holds : tie.Need-loop-holds Inv-loop μ-loop
-loop-holds c = simp (c .size .ensures, c .before .byte-at .ensures .0, first-is (c .before .before .before .args .table .now))
+loop-holds c = rw (c .first-rule .ensures)
 
 rule-end-requires : tie.Need-rule-end-requires Inv-loop μ-loop
-rule-end-requires c κs = let t = c .before .before .before .before .before .args .table .now in past-next _ (ruleEnd t) (rule-grows′ t) _ _ (c .loop-test .taken) (rw (c .before .loop .inv) at (c .before .before .before .before .before .pre))
+rule-end-requires c κs =
+    let s = c .before .before .before .before in
+    let t = s .args .table .now in
+    past-next _ (ruleEnd t) (rule-grows′ t) _ _ (c .loop-test .taken) (rw (c .before .loop .inv) at (s .pre))
 
 sub-left : tie.Need-sub-left Inv-loop μ-loop
 sub-left c = search needs
@@ -46,9 +43,7 @@ rule-place-spec =
     (tie.spec
     Inv-loop
     μ-loop
-    byte-at-requires
-    size-requires
-    add-at
+    first-rule-requires
     loop-holds
     rule-end-requires
     sub-left

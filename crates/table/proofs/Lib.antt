@@ -4,3 +4,4 @@ pub mod Known
 pub mod Sentence
 pub mod Walks
 pub mod Ordering
+pub mod Once

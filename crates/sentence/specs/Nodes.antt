@@ -10,6 +10,9 @@ use Rattle.meaning.specs.Grammar.{Rule}
 use Rattle.meaning.specs.Table.{byte, number, rankOf}
 use Rattle.meaning.specs.Decode.{ruleAt, ruleEnd, firstRule}
 use Rattle.meaning.specs.Accepted.{FineRule}
+use Rattle.meaning.specs.SentenceWriting.{walk}
+use Rattle.sentence.specs.declared.walk.Walked.{Walked}
+use Rattle.sentence.specs.declared.walk.Walked.the-variants.{Whole, Wrong}
 
 -- the place of the first of n rules, from a place on, that has a function number; 0 where there is none
 unfoldable pub seek : ℕ → List ℕ → ℕ → ℕ → ℕ
@@ -30,6 +33,15 @@ pub record Within (t ns : List ℕ) : Type 0 where
   pub within : (i : ℕ) → getD ns i 0 ≤ length t
   pub fine : (i : ℕ) → 1 ≤ getD ns i 0 → FineRule t (getD ns i 0)
   pub few : length ns ≤ 255
+
+-- meaning's walk over noted nodes
+abbrev pub walked : List ℕ → List ℕ → Option ℕ
+walked t ns = walk (ruleOf t) 0 (byte t 6 ∷ []) ns
+
+-- what the code answers of it
+abbrev pub walkedOf : Walked → Option ℕ
+walkedOf Whole = none
+walkedOf (Wrong i) = some i
 
 -- how many of these nodes the first n trees take
 unfoldable pub taken : List ℕ → List ℕ → ℕ → ℕ

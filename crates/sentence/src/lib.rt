@@ -1,2 +1,3 @@
 // The sentence writer: a tree list, each node's function number before its daughters', is written as the words of its tree.
 mod nodes;
+mod walk;

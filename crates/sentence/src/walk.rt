@@ -7,7 +7,8 @@ ghost use Rattle.meaning.specs.Table.{rankOf};
 ghost use Rattle.meaning.specs.Decode.{ruleAt};
 ghost use Rattle.table.specs.Views.{firsts};
 ghost use Rattle.sentence.specs.Nodes.{Within, walked, walkedOf};
-use table::{byte_at, size};
+use table::byte_at;
+use table::size;
 
 // Whether a list is one tree, or the first node at which something is wrong.
 pub enum Walked {

@@ -1,0 +1,6 @@
+pub mod Places
+pub mod Walks
+pub mod Turns
+pub mod Spelling
+pub mod Bound
+pub mod Told

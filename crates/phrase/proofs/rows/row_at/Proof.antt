@@ -1,0 +1,36 @@
+-- `phrase::rows::row_at` meets its contract: a range of the row that starts here is what the row makes from here.
+use borrow.Author.Needs.{needs}
+use Rattle.meaning.specs.Decode.{rowAt}
+use Rattle.table.proofs.Laws.{knew}
+use Rattle.phrase.specs.Phrase.{joinOf}
+use Rattle.phrase.proofs.Fit.{made-not, made-here, made-there}
+use Rattle.phrase.proofs.rows.row_at.Statement.{statement}
+use Rattle.phrase.proofs.rows.row_at.Tie as tie
+
+row-from-requires : tie.Need-row-from-requires
+row-from-requires c κs = search needs
+
+enum-known-p : tie.Need-enum-known-p
+enum-known-p c = search needs
+
+enum-told : tie.Need-enum-told
+enum-told c = search needs
+
+returns : tie.Need-returns
+returns c =
+    let a = c .before .before .before .before .before .args in
+    made-not (a .words .now) (a .d) (rowAt (a .table .now) (a .place)) (a .start) (knew joinOf (c .before .before .row-from .ensures) (c .enum-told .given .1))
+
+returns-2 : tie.Need-returns-2
+returns-2 c =
+    let a = c .before .before .before .before .before .before .before .before .args in
+    made-here (a .words .now) (a .d) (rowAt (a .table .now) (a .place)) (a .start) _ (knew joinOf (c .before .before .before .before .before .row-from .ensures) (c .before .before .before .p .given .1)) (c .if1 .taken)
+
+returns-3 : tie.Need-returns-3
+returns-3 c =
+    let a = c .before .before .before .before .before .before .before .before .args in
+    made-there (a .words .now) (a .d) (rowAt (a .table .now) (a .place)) (a .start) _ (knew joinOf (c .before .before .before .before .before .row-from .ensures) (c .before .before .before .p .given .1)) (c .if1 .left)
+
+pub row-at-spec : {M : Type 1} → statement M
+row-at-spec =
+    tie.close (tie.spec row-from-requires enum-known-p enum-told returns returns-2 returns-3)

@@ -1,0 +1,131 @@
+-- What the structs and enums of the code mean, and what the functions over them promise.
+use Prim.Native.Nat.{ℕ, _+_, _*_, _≤_, _<_}
+use mathlib.Core.Path.{_≡_}
+use mathlib.Core.Bool.{Bool, true, false}
+use mathlib.Core.Option.{Option, none as apart, some as just}
+use mathlib.Core.List.{List, [], _∷_}
+use lib.ListN.{length, getD, take}
+use Rattle.meaning.specs.Range.{Range, Item}
+use Rattle.meaning.specs.Grammar.{Symbol}
+use Rattle.meaning.specs.Giving.{Run, Stands, held, Gives}
+use Rattle.meaning.specs.Table.{got, checkTable, number}
+use Rattle.meaning.specs.Decode.{past, rowAt, rowEnd, ruleAt, ruleEnd, firstRule, grammarOf}
+use Rattle.phrase.specs.Row.{Starts}
+use Rattle.phrase.specs.declared.ranges.Range.{Range as Coded}
+use Rattle.phrase.specs.declared.ranges.Join.{Join}
+use Rattle.phrase.specs.declared.ranges.Join.the-variants.{Joined, Apart}
+use Rattle.phrase.specs.declared.items.Item.{Item as CodedItem}
+use Rattle.phrase.specs.declared.items.Daughters.{Daughters}
+use Rattle.phrase.specs.declared.rows.Row.{Row}
+use Rattle.phrase.specs.declared.rows.Row.the-variants.{At, Past}
+use Rattle.phrase.specs.declared.rows.Starts.{Starts as CodedStarts}
+use Rattle.phrase.specs.declared.giving.Pair.{Pair}
+use Rattle.phrase.specs.declared.giving.Pair.the-variants.{Both, Neither}
+use Rattle.phrase.specs.declared.giving.Given.{Given}
+use Rattle.phrase.specs.declared.giving.Given.the-variants.{Ranges, Over}
+
+-- a range of the code, and what joining or a row answers: a range, or none
+abbrev pub rangeOf : Coded → Range
+rangeOf p = record { from = p .from; to = p .to }
+
+abbrev pub joinOf : Join → Option Range
+joinOf (Joined p) = just (rangeOf p)
+joinOf Apart = apart
+
+-- where a row can start
+abbrev pub startsOf : CodedStarts → Starts
+startsOf s = record { first = s .first; end = s .end }
+
+-- an item, without its height
+abbrev pub ends : List ℕ → ℕ → Range
+ends l i = record { from = getD l i 0; to = getD l (i + 1) 0 }
+
+unfoldable pub itemOf : CodedItem → Item
+itemOf x = record { category = x .category; one = ends (x .ends) 0; two = ends (x .ends) 2; three = ends (x .ends) 4 }
+
+-- the daughters that there are
+unfoldable pub itemsOf : Daughters → List Item
+itemsOf d = take (d .count) (itemOf (d .one) ∷ itemOf (d .two) ∷ itemOf (d .three) ∷ [])
+
+-- constituent c of daughter k
+abbrev pub heldOf : Daughters → ℕ → ℕ → Range
+heldOf d = held (itemsOf d)
+
+-- a row's symbols, and that its bytes are there
+abbrev pub symbolsOf : List ℕ → Row → List Symbol
+symbolsOf t (At place) = rowAt t place
+symbolsOf t Past = []
+
+abbrev pub EndsIn : List ℕ → Row → Type 0
+EndsIn t (At place) = rowEnd t place ≤ length t
+EndsIn t Past = Unit {0}
+
+-- a rule of a table that is not refused starts here
+pub record RuleOf (t : List ℕ) (place : ℕ) : Type 0 where
+  pub accepted : checkTable t ≡ got tt
+  pub index : ℕ
+  pub below : index < number t 7
+  pub there : place ≡ past index (ruleEnd t) (firstRule t)
+
+-- row i of the rule at a place
+abbrev pub rowOf : List ℕ → ℕ → ℕ → List Symbol
+rowOf t rule i = getD (ruleAt t rule .rows) i []
+
+-- a test's answer is whether P holds
+pub data Decides (P : Type 0) : Bool → Type 0 where
+  holds : P → Decides P true
+  fails : (P → ⊥) → Decides P false
+
+-- the range is one that the row can have with these daughters
+abbrev pub Has : List ℕ → Daughters → List Symbol → Range → Type 0
+Has ws d ss r = Run (Stands ws (heldOf d)) ss r
+
+-- x is one of the items that the rule at this place gives with these daughters
+abbrev pub GivesAt : List ℕ → List ℕ → ℕ → Daughters → CodedItem → Type 0
+GivesAt t ws rule d x = Gives (grammarOf t) ws (ruleAt t rule) (itemsOf d) (itemOf x)
+
+-- the range that has P and starts exactly here, or that there is none
+pub data StartsAt (P : Range → Type 0) (start : ℕ) : Option Range → Type 0 where
+  stands : {r : Range} → P r → r .from ≡ start → StartsAt P start (just r)
+  stands-not : ((q : Range) → P q → q .from ≡ start → ⊥) → StartsAt P start apart
+
+-- the first of what has P, by a key, from a number on, or that there is none
+pub data Next {A : Type 0} (key : A → ℕ) (P : A → Type 0) (from : ℕ) : Option A → Type 0 where
+  found : {x : A} → P x → from ≤ key x → ((y : A) → P y → from ≤ key y → key x ≤ key y) → Next key P from (just x)
+  over : ((y : A) → P y → key y < from) → Next key P from apart
+
+-- a row's ranges go by their start
+abbrev pub startOf : Range → ℕ
+startOf r = r .from
+
+-- two rows' ranges, and three rows', go by the first start, then the next; all starts are below 65
+abbrev pub Two : Type 0
+Two = Range × Range
+
+abbrev pub twoStarts : Two → ℕ
+twoStarts p = p .0 .from * 65 + p .1 .from
+
+abbrev pub HasTwo : List ℕ → Daughters → List Symbol → List Symbol → Two → Type 0
+HasTwo ws d one two p = Has ws d one (p .0) × Has ws d two (p .1)
+
+abbrev pub Three : Type 0
+Three = Range × Two
+
+abbrev pub threeStarts : Three → ℕ
+threeStarts p = p .0 .from * 4225 + twoStarts (p .1)
+
+abbrev pub HasThree : List ℕ → Daughters → List Symbol → List Symbol → List Symbol → Three → Type 0
+HasThree ws d one two three p = Has ws d one (p .0) × HasTwo ws d two three (p .1)
+
+-- the answers for two rows and for three
+abbrev pub pairOf : Pair → Option Two
+pairOf (Both p q) = just (rangeOf p, rangeOf q)
+pairOf Neither = apart
+
+abbrev pub givenOf : Given → Option Three
+givenOf (Ranges p q r) = just (rangeOf p, (rangeOf q, rangeOf r))
+givenOf Over = apart
+
+-- the item that three ranges make
+abbrev pub itemFrom : ℕ → Three → Item
+itemFrom A p = record { category = A; one = p .0; two = p .1 .0; three = p .1 .1 }

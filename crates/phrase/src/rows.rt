@@ -1,0 +1,237 @@
+// A row of a rule: what it makes from a start, where it can start, and the ranges that it can have.
+ghost use mathlib.Core.Path.{_≡_};
+ghost use Prim.Native.Nat.{ℕ, _+_, _-_, _<_, _≤_};
+ghost use lib.ListN.{length, getD};
+ghost use Rattle.meaning.specs.Range as range;
+ghost use Rattle.meaning.specs.Table.{number};
+ghost use Rattle.meaning.specs.Decode.{rowEnd, rowAt, symbolAt};
+ghost use Rattle.phrase.specs.Row as row;
+ghost use Rattle.phrase.specs.Phrase.{rangeOf, joinOf, startsOf, heldOf, symbolsOf, rowOf, EndsIn, RuleOf, Decides, Has, Next, StartsAt, startOf};
+use crate::items::Daughters;
+use crate::items::held;
+use crate::ranges::Join;
+use crate::ranges::Range;
+use crate::ranges::is_range;
+use crate::ranges::joined;
+use crate::ranges::same;
+use table::byte_at;
+use table::number_at;
+use table::row_end;
+use table::size;
+
+// A row of a rule: the place of its bytes, or a number past the last row.
+pub enum Row {
+    At(usize),
+    Past,
+}
+
+// Where a row can start: from first up to but not including end.
+pub struct Starts {
+    pub first: usize,
+    pub end: usize,
+}
+
+// Row i of the rule at a place, from 0.
+pub fn row_of(table: &[u8], rule: usize, i: usize) -> Row
+    requires { ⌜ RuleOf (now table) rule ⌝ }
+    ensures { λ r. ⌜ (symbolsOf (now (table .entry)) r ≡ rowOf (now (table .entry)) rule i) × EndsIn (now (table .entry)) r ⌝ }
+{
+    let third = rule + 2;
+    let fourth = rule + 3;
+    let fifth = rule + 4;
+    let entry = 8 + size(byte_at(table, third));
+    if size(byte_at(table, entry)) <= i {
+        return Row::Past;
+    }
+    let mut at = fifth + size(byte_at(table, fourth));
+    let mut left = i;
+    while left > 0 {
+        at = row_end(table, at);
+        left -= 1;
+    }
+    Row::At(at)
+}
+
+// Where a word goes next to what ends at `to`.
+fn after(start: usize, to: usize) -> usize
+    ensures { λ r. ⌜ r ≡ row.after start to ⌝ }
+{
+    if to == 0 {
+        return start;
+    }
+    to
+}
+
+// The range of a word that must stand at a place.
+fn word(words: &[u16], w: u16, at: usize) -> Join
+    ensures { λ r. ⌜ joinOf r ≡ row.wordHere (now (words .entry)) w at ⌝ }
+{
+    if words.len() <= at {
+        return Join::Apart;
+    }
+    if words[at] != w {
+        return Join::Apart;
+    }
+    let next = at + 1;
+    Join::Joined(Range { from: at, to: next })
+}
+
+// One less; 0 for 0.
+fn less(x: u16) -> usize
+    ensures { λ r. ⌜ r ≡ x - 1 ⌝ }
+{
+    if x == 0 {
+        return 0;
+    }
+    size(x) - 1
+}
+
+// The part that the symbol at a place names.
+fn part_at(table: &[u8], at: usize, d: Daughters) -> Range
+    requires { ⌜ at + 3 ≤ length (now table) ⌝ }
+    ensures { λ r. ⌜ (rangeOf r ≡ heldOf d (getD (now (table .entry)) at 0 - 1) (number (now (table .entry)) (at + 1) - 1)) × (r .from < 65536) ⌝ }
+{
+    let second = at + 1;
+    let kind = byte_at(table, at);
+    let n = number_at(table, second);
+    held(d, less(kind), less(n))
+}
+
+// The range of a part, if it is one of the sentence's.
+fn part(words: &[u16], p: Range) -> Join
+    ensures { λ r. ⌜ joinOf r ≡ row.partHere (now (words .entry)) (rangeOf p) ⌝ }
+{
+    if is_range(words, p) {
+        return Join::Joined(p);
+    }
+    Join::Apart
+}
+
+// The range of the symbol at a place of the table, next to what ends at `to`.
+fn site(table: &[u8], at: usize, words: &[u16], d: Daughters, start: usize, to: usize) -> Join
+    requires { ⌜ at + 3 ≤ length (now table) ⌝ }
+    ensures { λ r. ⌜ joinOf r ≡ row.site (now (words .entry)) (heldOf d) start to (symbolAt (now (table .entry)) at) ⌝ }
+{
+    if byte_at(table, at) == 0 {
+        let second = at + 1;
+        return word(words, number_at(table, second), after(start, to));
+    }
+    part(words, part_at(table, at, d))
+}
+
+// What the row makes, where its first word stands at the start.
+pub fn row_from(table: &[u8], place: usize, words: &[u16], d: Daughters, start: usize) -> Join
+    requires { ⌜ rowEnd (now table) place ≤ length (now table) ⌝ }
+    ensures { λ r. ⌜ joinOf r ≡ row.eval (now (words .entry)) (heldOf d) start range.none (rowAt (now (table .entry)) place) ⌝ }
+{
+    let mut left = byte_at(table, place);
+    let mut at = place + 1;
+    let mut a = Range { from: 0, to: 0 };
+    while left > 0 {
+        let Join::Joined(p) = site(table, at, words, d, start, a.to) else {
+            return Join::Apart;
+        };
+        let Join::Joined(b) = joined(a, p) else {
+            return Join::Apart;
+        };
+        a = b;
+        at += 3;
+        left -= 1;
+    }
+    Join::Joined(a)
+}
+
+// Where the row can start: where its first part that is not empty stands; anywhere if a word comes first; at 0 if it is empty.
+pub fn row_starts(table: &[u8], place: usize, words: &[u16], d: Daughters) -> Starts
+    requires { ⌜ rowEnd (now table) place ≤ length (now table) ⌝ }
+    ensures { λ r. ⌜ startsOf r ≡ row.starts (now (words .entry)) (heldOf d) (rowAt (now (table .entry)) place) ⌝ }
+{
+    let mut left = byte_at(table, place);
+    let mut at = place + 1;
+    while left > 0 {
+        if byte_at(table, at) == 0 {
+            return Starts {
+                first: 0,
+                end: words.len(),
+            };
+        }
+        let p = part_at(table, at, d);
+        if p.to != 0 {
+            let first = p.from;
+            let end = first + 1;
+            return Starts {
+                first: first,
+                end: end,
+            };
+        }
+        at += 3;
+        left -= 1;
+    }
+    Starts { first: 0, end: 1 }
+}
+
+// Whether the row can have this range with these daughters.
+pub fn row_fits(table: &[u8], row: Row, words: &[u16], d: Daughters, r: Range) -> bool
+    requires { ⌜ EndsIn (now table) row ⌝ }
+    ensures { λ b. ⌜ Decides (Has (now (words .entry)) d (symbolsOf (now (table .entry)) row) (rangeOf r)) b ⌝ }
+{
+    let Row::At(place) = row else {
+        return same(r, Range { from: 0, to: 0 });
+    };
+    let Join::Joined(p) = row_from(table, place, words, d, r.from) else {
+        return false;
+    };
+    same(p, r)
+}
+
+// The range that the row can have from exactly this start.
+fn row_at(table: &[u8], place: usize, words: &[u16], d: Daughters, start: usize) -> Join
+    requires { ⌜ rowEnd (now table) place ≤ length (now table) ⌝ }
+    ensures { λ r. ⌜ StartsAt (Has (now (words .entry)) d (rowAt (now (table .entry)) place)) start (joinOf r) ⌝ }
+{
+    let Join::Joined(p) = row_from(table, place, words, d, start) else {
+        return Join::Apart;
+    };
+    if p.from == start {
+        return Join::Joined(p);
+    }
+    Join::Apart
+}
+
+// The later of two places.
+fn later(a: usize, b: usize) -> usize
+    ensures { λ r. ⌜ (a ≤ r) × (b ≤ r) × ((n : ℕ) → a ≤ n → b ≤ n → r ≤ n) ⌝ }
+{
+    if a < b {
+        return b;
+    }
+    a
+}
+
+// The first range that the row can have from a place on.
+pub fn row_next(table: &[u8], row: Row, words: &[u16], d: Daughters, from: usize) -> Join
+    requires { ⌜ EndsIn (now table) row ⌝ }
+    ensures { λ r. ⌜ Next startOf (Has (now (words .entry)) d (symbolsOf (now (table .entry)) row)) from (joinOf r) ⌝ }
+{
+    let Row::At(place) = row else {
+        if from == 0 {
+            return Join::Joined(Range { from: 0, to: 0 });
+        }
+        return Join::Apart;
+    };
+    let s = row_starts(table, place, words, d);
+    let end = s.end;
+    let mut start = later(from, s.first);
+    while start < end {
+        let made = row_at(table, place, words, d, start);
+        match made {
+            Join::Joined(_) => {
+                return made;
+            }
+            Join::Apart => {
+                start += 1;
+            }
+        }
+    }
+    Join::Apart
+}

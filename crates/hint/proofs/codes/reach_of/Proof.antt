@@ -1,0 +1,61 @@
+use Rattle.hint.proofs.Segments.{reach-all, reach-zero, reach-start, reach-empty}
+use native.Mathlib.Omega.{arith}
+use borrow.Author.Needs.{needs}
+use Rattle.hint.proofs.codes.reach_of.Statement.{statement}
+use Rattle.hint.proofs.codes.reach_of.Tie as tie
+use Rattle.hint.proofs.codes.reach_of.Reads as reads
+use Rattle.hint.proofs.codes.reach_of.Lts as lts
+use Rattle.hint.proofs.codes.wide.Reads as wide-reads
+
+wide-requires : tie.Need-wide-requires
+wide-requires c κs = search needs
+
+mul-first : tie.Need-mul-first
+mul-first c = search needs
+
+add-end : tie.Need-add-end
+add-end c = search needs
+
+returns : tie.Need-returns
+returns c = reach-all (c .before .before .args .w) (c .before .wide .ensures)
+
+add-end-2 : tie.Need-add-end-2
+add-end-2 c = search needs
+
+returns-2 : tie.Need-returns-2
+returns-2 c = reach-zero (c .before .before .before .args .w) (c .before .before .wide .ensures) (c .if2 .taken)
+
+add-empty : tie.Need-add-empty
+add-empty c = search needs
+
+mul-start : tie.Need-mul-start
+mul-start c = search needs
+
+add-start : tie.Need-add-start
+add-start c = search needs
+
+add-end-3 : tie.Need-add-end-3
+add-end-3 c = search needs
+
+returns-3 : tie.Need-returns-3
+returns-3 c = reach-start (c .before .before .before .before .args .w) (c .before .before .before .wide .ensures) (c .before .before .if1 .left) (c .before .if2 .left)
+
+returns-4 : tie.Need-returns-4
+returns-4 c = reach-empty (c .before .before .before .before .args .w) (c .before .before .before .wide .ensures) (c .before .before .if1 .left) (c .if3 .left)
+
+pub reach-of-spec : {M : Type 1} → statement M
+reach-of-spec =
+    tie.close
+    (tie.spec
+    wide-requires
+    mul-first
+    add-end
+    returns
+    add-end-2
+    returns-2
+    add-empty
+    mul-start
+    add-start
+    add-end-3
+    returns-3
+    returns-4)

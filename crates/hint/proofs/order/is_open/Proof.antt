@@ -1,0 +1,24 @@
+use mathlib.Core.Path.{sym, _∙_}
+use Rattle.phrase.specs.Phrase.{holds, fails}
+use native.Mathlib.Omega.{arith}
+use borrow.Author.Needs.{needs}
+use Rattle.hint.proofs.order.is_open.Statement.{statement}
+use Rattle.hint.proofs.order.is_open.Tie as tie
+use Rattle.hint.proofs.order.is_open.Reads as reads
+use Rattle.hint.proofs.order.is_open.Lts as lts
+use Rattle.hint.proofs.order.category_of.Reads as category-of-reads
+
+returns : tie.Need-returns
+returns c = fails (λ o. let l = o .0 in omega arith)
+
+category-of-requires : tie.Need-category-of-requires
+category-of-requires c κs = search needs
+
+returns-2 : tie.Need-returns-2
+returns-2 c = fails (λ o. c .if2 .taken (c .before .category-of .ensures ∙ o .1))
+
+returns-3 : tie.Need-returns-3
+returns-3 c = holds (omega arith, sym (c .before .category-of .ensures) ∙ c .if2 .left)
+
+pub is-open-spec : {M : Type 1} → statement M
+is-open-spec = tie.close (tie.spec returns category-of-requires returns-2 returns-3)

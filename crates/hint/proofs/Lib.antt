@@ -1,2 +1,5 @@
 pub mod Segments
 pub mod Moving
+pub mod Chains
+pub mod Sharpening
+pub mod Heights

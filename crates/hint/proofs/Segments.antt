@@ -2,29 +2,18 @@
 use Prim.Native.Nat.{ℕ, suc, _+_, _*_, _≤_, _<_}
 use mathlib.Core.Path.{_≡_, sym, ap}
 use mathlib.Core.Logic.{_⊎_, inl, inr}
-use mathlib.Core.Bool.{Bool, true, false}
+use mathlib.Core.Bool.{Bool}
 use native.Mathlib.Omega.{arith}
 use Rattle.meaning.specs.Range.{Range, none, Item}
 use Rattle.meaning.proofs.Joining.{range-path}
 use Rattle.store.specs.Set.{keyOf, Within}
 use Rattle.store.specs.Code.{unpacked, knownOf}
-use Rattle.phrase.specs.Phrase.{Decides, holds, fails}
+use Rattle.phrase.specs.Phrase.{Decides}
+use Rattle.phrase.proofs.Fit.{instead}
 use Rattle.hint.specs.declared.Want.{Want}
 use Rattle.hint.specs.declared.Wants.{Wants}
 use Rattle.hint.specs.declared.Reach.{Reach}
 use Rattle.hint.specs.Hint.{As, PartMeets, PartsMeet, Meets, Reaches}
-
-pub said-yes : {P : Type 0} {b : Bool} → Decides P b → b ≡ true → P
-said-yes (holds p) e = p
-said-yes (fails n) e = let z : _≡_ {A = ℕ} 0 1 = cc in absurd (omega arith)
-
-pub said-no : {P : Type 0} {b : Bool} → Decides P b → b ≡ false → P → ⊥
-said-no (holds p) e = let z : _≡_ {A = ℕ} 0 1 = cc in absurd (omega arith)
-said-no (fails n) e = n
-
-pub instead : {P Q : Type 0} {b : Bool} → (P → Q) → (Q → P) → Decides P b → Decides Q b
-instead f g (holds p) = holds (f p)
-instead f g (fails n) = fails (λ q. n (g q))
 
 -- the tests, one after another
 pub as-not : {asked n : ℕ} → (asked ≡ 65 → ⊥) → (asked ≡ n → ⊥) → As asked n → ⊥

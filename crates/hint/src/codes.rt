@@ -13,7 +13,9 @@ use crate::Wants;
 
 // How many codes there are of one category (2^53), of one start of its first part (2^46), of one end of it (2^39).
 const OF_CATEGORY: u64 = 9007199254740992;
+
 const OF_START: u64 = 70368744177664;
+
 const OF_END: u64 = 549755813888;
 
 // A code's category as a number that the codes are counted by.

@@ -1,8 +1,11 @@
 // What the daughters that are chosen, and the item that is wanted, ask of a daughter that is not chosen yet. Here stands what other crates may name.
+mod asking;
 mod codes;
 mod order;
+mod passes;
 mod steps;
 
+pub use asking::wants_of;
 pub use codes::meets;
 pub use codes::reach_of;
 pub use order::turn_of;
@@ -38,4 +41,5 @@ pub struct Reach {
 
 // A part may start or end anywhere; or nowhere, since no code has this number as a digit.
 pub const ANYWHERE: u64 = 65;
+
 pub const NOWHERE: u64 = 128;

@@ -4,3 +4,5 @@ pub mod Values
 pub mod Turns
 pub mod Fit
 pub mod RuleThere
+pub mod Product
+pub mod Offers

@@ -6,6 +6,7 @@ mod rows;
 
 pub use giving::Given;
 pub use giving::fits;
+pub use giving::given_next;
 pub use giving::kinds;
 pub use items::Daughters;
 pub use items::Item;

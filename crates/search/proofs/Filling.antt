@@ -7,7 +7,8 @@ use Prim.Native.Nat.{ℕ, zero, suc, _+_, _-_, _*_, _/_, _%_, _<_, _≤_, _^_}
 use native.Mathlib.Omega.{arith}
 use lib.ListN.{length, getD, take, length-take}
 use Rattle.store.specs.Set.{Sorted, place, keyOf, heightOf, Held, Put, placed, no-room}
-use Rattle.store.proofs.Laws.{place-sorted, place-from, place-keeps, place-has, mem-at, lt-or-ge}
+use lib.Seq.{getD-take}
+use Rattle.store.proofs.Laws.{place-sorted, place-from, place-keeps, place-has, mem-at, at-mem, lt-or-ge}
 use Rattle.store.proofs.Sets.{next, take-mem, take-all, longer}
 use Rattle.search.specs.Level.{New, Adds, Ready, Filled, kept, over, Some, Either, Span}
 
@@ -122,3 +123,27 @@ module _ {K : List ℕ} {h lo : ℕ} {P : ℕ → ℕ → Type 0} {a : List ℕ}
 -- what is known already need not be tried
 pub known-already : {K : List ℕ} {h : ℕ} {S : ℕ → Type 0} {a : List ℕ} {n : ℕ} → Ready K h a n → ((x : ℕ) → S x → Held x K) → Filled K h S a n a n
 known-already y f = kept (y .count) (y .sorted) (record { keeps = λ d i. i; origin = λ d i. inl i; has = λ x s. inl (f x s) })
+
+-- places that do nothing are passed over
+take-in : {c : ℕ} (l : List ℕ) (i j : ℕ) → i ≤ j → Mem c (take i l) → Mem c (take j l)
+take-in l zero j h m = absurd (not-mem-nil m)
+take-in [] (suc i) (suc j) h m = absurd (not-mem-nil m)
+take-in (d ∷ l) (suc i) (suc j) h (here e) = here e
+take-in (d ∷ l) (suc i) (suc j) h (there m) = there (take-in l i j (omega arith) m)
+take-in l (suc i) zero h m = absurd (omega arith)
+
+pub jump : {K : List ℕ} {h : ℕ} (l : List ℕ) {P : ℕ → ℕ → Type 0} {a : List ℕ} {n : ℕ} {b : List ℕ} {m : ℕ} (i j : ℕ) → i ≤ j
+    → ((p : ℕ) → i ≤ p → p < j → p < length l → (x : ℕ) → P (getD l p 0) x → ⊥) → Filled K h (Some (take i l) P) a n b m → Filled K h (Some (take j l) P) a n b m
+jump l {P} i j h none w = same w (λ x s. record { which = s .which; among = take-in l i j h (s .among); does = s .does }) back
+  where
+    back : (x : ℕ) → Some (take j l) P x → Some (take i l) P x
+    back x s = go (at-mem (s .among) .0) (at-mem (s .among) .1) (at-mem (s .among) .2)
+      where
+        go : (p : ℕ) → p < length (take j l) → getD (take j l) p 0 ≡ s .which → Some (take i l) P x
+        go p u e =
+            let v : (p < j) × (p < length l) = omega (arith, length-take j l) in
+            let f : getD l p 0 ≡ s .which = sym (getD-take j l p 0 (v .0)) ∙ e in
+            ⊎-elim
+            (λ q. record { which = s .which; among = subst (λ (c : ℕ). Mem c (take i l)) (getD-take i l p 0 q ∙ f) (mem-at (take i l) p (omega (arith, length-take i l))); does = s .does })
+            (λ q. absurd (none p q (v .0) (v .1) x (subst (λ (c : ℕ). P c x) (sym f) (s .does))))
+            (lt-or-ge p i)

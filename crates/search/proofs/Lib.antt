@@ -4,3 +4,5 @@ pub mod Levels
 pub mod Steps
 pub mod Keys
 pub mod Whole
+pub mod Choosing
+pub mod Offers

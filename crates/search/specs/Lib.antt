@@ -2,3 +2,4 @@ pub mod Level
 pub mod Search
 pub mod Keys
 pub mod Spots
+pub mod Tried

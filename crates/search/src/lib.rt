@@ -1,5 +1,6 @@
 // The search: level by level all items that can be made, as packed items in chart order.
 mod spots;
+mod trying;
 
 pub use spots::Spots;
 pub use spots::first;

@@ -1,5 +1,5 @@
 use Rattle.phrase.specs.Phrase.{fails}
-use Rattle.hint.proofs.Segments.{instead}
+use Rattle.phrase.proofs.Fit.{instead}
 use native.Mathlib.Omega.{arith}
 use borrow.Author.Needs.{needs}
 use Rattle.hint.proofs.codes.meets.Statement.{statement}

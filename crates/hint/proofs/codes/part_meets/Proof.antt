@@ -1,7 +1,8 @@
 use mathlib.Core.Logic.{inl, inr}
 use borrow.Author.Tests.{not-true, not-false}
 use Rattle.phrase.specs.Phrase.{holds, fails}
-use Rattle.hint.proofs.Segments.{said-yes, said-no, starts-not, part-last}
+use Rattle.phrase.proofs.Fit.{said-yes, said-no}
+use Rattle.hint.proofs.Segments.{starts-not, part-last}
 use native.Mathlib.Omega.{arith}
 use borrow.Author.Needs.{needs}
 use Rattle.hint.proofs.codes.part_meets.Statement.{statement}

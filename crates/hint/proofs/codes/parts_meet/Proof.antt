@@ -1,7 +1,8 @@
 use borrow.Author.Tests.{not-true, not-false}
 use Rattle.store.specs.Code.{unpacked}
 use Rattle.phrase.specs.Phrase.{fails}
-use Rattle.hint.proofs.Segments.{said-yes, said-no, parts-last}
+use Rattle.phrase.proofs.Fit.{said-yes, said-no}
+use Rattle.hint.proofs.Segments.{parts-last}
 use native.Mathlib.Omega.{arith}
 use borrow.Author.Needs.{needs}
 use Rattle.hint.proofs.codes.parts_meet.Statement.{statement}

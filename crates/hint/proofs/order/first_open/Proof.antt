@@ -1,5 +1,5 @@
 use Rattle.hint.specs.Hint.{next-is}
-use Rattle.hint.proofs.Segments.{said-yes, said-no}
+use Rattle.phrase.proofs.Fit.{said-yes, said-no}
 use Rattle.hint.proofs.Moving.{none-open}
 use native.Mathlib.Omega.{arith}
 use borrow.Author.Needs.{needs}

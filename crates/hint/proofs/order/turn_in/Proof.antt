@@ -1,7 +1,7 @@
 use Prim.Native.Nat.{_+_, _*_, _≤_}
 use lib.ListN.{length}
 use Rattle.meaning.proofs.Places.{row-is}
-use Rattle.hint.proofs.Segments.{said-yes}
+use Rattle.phrase.proofs.Fit.{said-yes}
 use borrow.Author.Needs.{needs}
 use native.Mathlib.Omega.{arith}
 use Rattle.hint.proofs.order.turn_in.Statement.{statement}

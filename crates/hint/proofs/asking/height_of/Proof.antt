@@ -1,0 +1,21 @@
+use mathlib.Core.Path.{ap}
+use Rattle.phrase.specs.declared.items.Item.{Item}
+use Rattle.hint.proofs.Moving.{seat-last}
+use native.Mathlib.Omega.{arith}
+use borrow.Author.Needs.{needs}
+use Rattle.hint.proofs.asking.height_of.Statement.{statement}
+use Rattle.hint.proofs.asking.height_of.Tie as tie
+use Rattle.hint.proofs.asking.height_of.Reads as reads
+use Rattle.hint.proofs.asking.height_of.Lts as lts
+
+returns : tie.Need-returns
+returns c = search needs
+
+returns-2 : tie.Need-returns-2
+returns-2 c = search needs
+
+returns-3 : tie.Need-returns-3
+returns-3 c = ap (λ (x : Item). x .height) (seat-last (c .before .before .args .d) (c .before .before .args .k) (c .before .if1 .left) (c .if2 .left))
+
+pub height-of-spec : {M : Type 1} → statement M
+height-of-spec = tie.close (tie.spec returns returns-2 returns-3)

@@ -1,0 +1,81 @@
+-- `phrase::giving::pair_next` meets its contract: the number is the first row's start times 65 and the second's.
+use mathlib.Core.Path.{_≡_, ap}
+use Prim.Native.Nat.{_+_, _*_, _/_, _%_, _<_}
+use native.Mathlib.Omega.{arith}
+use borrow.Author.Needs.{needs}
+use Rattle.phrase.specs.Phrase.{joinOf, symbolsOf}
+use Rattle.phrase.proofs.Product.{none-first, none-second, both-on, both-step}
+use Rattle.phrase.proofs.Offers.{two-keyed}
+use Rattle.phrase.proofs.giving.pair_next.Statement.{statement}
+use Rattle.phrase.proofs.giving.pair_next.Tie as tie
+
+row-next-requires : tie.Need-row-next-requires
+row-next-requires c κs = search needs
+
+enum-known-p : tie.Need-enum-known-p
+enum-known-p c = search needs
+
+enum-told : tie.Need-enum-told
+enum-told c = search needs
+
+returns : tie.Need-returns
+returns c =
+    let a = c .before .before .before .before .before .args in
+    let k = two-keyed (a .words .now) (a .d) (c .before .before .before .before .before .pre .2) (symbolsOf (a .table .now) (a .one)) (symbolsOf (a .table .now) (a .two)) in
+    none-first k (a .n / 65) (a .n % 65) (omega arith) (c .before .before .row-next .ensures) (ap joinOf (c .enum-told .given .1))
+
+onward-requires : tie.Need-onward-requires
+onward-requires c κs = search needs
+
+row-next-requires-2 : tie.Need-row-next-requires-2
+row-next-requires-2 c κs = search needs
+
+enum-known-q : tie.Need-enum-known-q
+enum-known-q c = search needs
+
+enum-told-2 : tie.Need-enum-told-2
+enum-told-2 c = search needs
+
+returns-2 : tie.Need-returns-2
+returns-2 c =
+    let a = c .before .before .before .before .before .before .before .before .before .before .before .args in
+    let k = two-keyed (a .words .now) (a .d) (c .before .before .before .before .before .before .before .before .before .before .before .pre .2) (symbolsOf (a .table .now) (a .one)) (symbolsOf (a .table .now) (a .two)) in
+    none-second k _ (c .if1 .taken) (c .before .before .before .row-next2 .ensures) (ap joinOf (c .before .enum-told2 .given .1))
+
+add-next : tie.Need-add-next
+add-next c = search needs
+
+pair-after-requires : tie.Need-pair-after-requires
+pair-after-requires c κs = search needs
+
+returns-3 : tie.Need-returns-3
+returns-3 c =
+    let a = c .before .before .before .before .before .before .before .before .before .before .before .before .args in
+    let k = two-keyed (a .words .now) (a .d) (c .before .before .before .before .before .before .before .before .before .before .before .before .pre .2) (symbolsOf (a .table .now) (a .one)) (symbolsOf (a .table .now) (a .two)) in
+    both-step k (a .n / 65) (a .n % 65) (omega arith) (omega arith) (c .before .before .before .before .before .before .before .before .before .row-next .ensures) (ap joinOf (c .before .before .before .before .before .before .before .p .given .1)) (c .before .before .before .before .before .onward .ensures) (c .before .before .before .before .row-next2 .ensures)
+    (ap joinOf (c .before .before .enum-told2 .given .1)) (c .before .if1 .left) (c .pair-after .ensures)
+
+returns-4 : tie.Need-returns-4
+returns-4 c =
+    let a = c .before .before .before .before .before .before .before .before .before .before .before .args in
+    let k = two-keyed (a .words .now) (a .d) (c .before .before .before .before .before .before .before .before .before .before .before .pre .2) (symbolsOf (a .table .now) (a .one)) (symbolsOf (a .table .now) (a .two)) in
+    both-on k (a .n / 65) (a .n % 65) (omega arith) (omega arith) (c .before .before .before .before .before .before .before .before .row-next .ensures) (ap joinOf (c .before .before .before .before .before .before .p .given .1)) (c .before .before .before .before .onward .ensures) (c .before .before .before .row-next2 .ensures)
+    (ap joinOf (c .before .q .given .1))
+
+pub pair-next-spec : {M : Type 1} → statement M
+pair-next-spec =
+    tie.close
+    (tie.spec
+    row-next-requires
+    enum-known-p
+    enum-told
+    returns
+    onward-requires
+    row-next-requires-2
+    enum-known-q
+    enum-told-2
+    returns-2
+    add-next
+    pair-after-requires
+    returns-3
+    returns-4)

@@ -12,9 +12,15 @@ ghost use Rattle.search.specs.Level.{Ready, Filled};
 ghost use Rattle.search.specs.Tried.{coded, put, Tried, Trying, Ranged, Offered, Short, SpotsFor, AllChosen};
 use crate::enter;
 use crate::spots::Spots;
+use crate::spots::first;
+use crate::spots::next;
 use crate::spots::spots_of;
+use hint::Turn;
 use hint::Wants;
+use hint::meets;
 use hint::reach_of;
+use hint::turn_of;
+use hint::wants_of;
 use phrase::Daughters;
 use phrase::Item;
 use phrase::Join;
@@ -190,4 +196,33 @@ fn spots_for(table: &[u8], rule: usize, k: usize, w: Wants, known: &[u64]) -> Sp
     let place = rule + 4 + k;
     let r = reach_of(byte_at(table, place), w);
     spots_of(known, r.low, r.high, r.low2, r.high2)
+}
+
+// Enters what the rule gives with these daughters and any known ones where they are not chosen yet; left of them are not.
+fn extend(table: &[u8], words: &[u16], rule: usize, goal: Item, d: Daughters, left: usize, known: &[u64], fresh: &mut [u64], n: usize) -> usize
+    requires { ⌜ Ready (now known) (goal .height) (now fresh) n ⌝ }
+    requires { ⌜ Trying (now table) (now words) rule goal d (now known) left ⌝ }
+    ensures { λ m. ⌜ Filled (now (known .entry)) (goal .height) (Tried (now (table .entry)) (now (words .entry)) rule goal d (now (known .entry))) (now (fresh .entry)) n (now (fresh .exit)) m ⌝ }
+{
+    let t = turn_of(table, rule, d);
+    let Turn::Daughter(k) = t else {
+        return offer(table, words, rule, goal, d, known, fresh, n);
+    };
+    let w = wants_of(table, rule, words, d, goal, k);
+    let s = spots_for(table, rule, k, w, known);
+    let end = s.hi;
+    let fewer = left - 1;
+    let mut m = n;
+    let mut i = first(s);
+    while i < end {
+        let c = known[i];
+        if meets(w, c) {
+            m = extend(table, words, rule, goal, with(d, k, unpack(c)), fewer, known, fresh, m);
+            if fresh.len() < m {
+                return m;
+            }
+        }
+        i = next(s, i);
+    }
+    m
 }

@@ -24,13 +24,17 @@ use Rattle.meaning.specs.Table.{byte, rankOf, categoryOf}
 use Rattle.meaning.proofs.Ends.{fine-table}
 use Rattle.meaning.proofs.Places.{past-one}
 use Rattle.hint.specs.declared.Reach.{Reach}
+use Rattle.hint.specs.declared.Turn.{Turn}
+use Rattle.hint.specs.declared.Turn.the-variants.{Daughter, Done}
 use Rattle.search.specs.declared.spots.Spots.{Spots}
-use Rattle.search.specs.Spots.{Finds}
+use Rattle.search.specs.Spots.{Ordered, Inside, Finds, Skips}
 use Rattle.meaning.specs.Decode.{ruleAt}
 use Rattle.hint.specs.declared.Wants.{Wants}
-use Rattle.hint.specs.Hint.{seat, Open, heldAs, unknown, Partial, Completes, Does, Meets, Asks, Reaches}
-use Rattle.search.specs.Level.{Some}
-use Rattle.search.specs.Tried.{coded, put, In, Tried, open-at, opens, Trying, SpotsFor}
+use Rattle.hint.specs.Hint.{seat, Open, heldAs, unknown, Partial, Completes, Does, Meets, Asks, Reaches, Turns, next-is, all-chosen}
+use Rattle.search.specs.Level.{Ready, Filled, Some}
+use Rattle.store.proofs.Laws.{mem-at}
+use Rattle.search.proofs.Filling.{same, jump, loop-begins, loop-ends, loop-turns, loop-stops}
+use Rattle.search.specs.Tried.{coded, put, In, Tried, open-at, opens, Trying, SpotsFor, Trial}
 
 -- the code's item is the item of the code
 pub coded-known : (c : ℕ) → heldAs (coded c) ≡ knownOf c
@@ -146,6 +150,7 @@ pub trying-on : {t ws : List ℕ} {rule : ℕ} {goal : CodedItem} {d : Daughters
 trying-on {d = d} {K = K} k c next T l o m e = record {
   there = T .there;
   short = T .short;
+  most = T .most;
   any = T .any;
   low = T .low;
   high = T .high;
@@ -240,3 +245,58 @@ module _ (t : List ℕ) (rule : ℕ) (r : RuleOf t rule) (k : ℕ) (below : k < 
 
 pub rule-kind : (t : List ℕ) (rule : ℕ) → RuleOf t rule → (1 ≤ categoryOf t rule) × (categoryOf t rule ≤ 64)
 rule-kind t rule r = let f = fine t rule r in let v = fine-table t (r .accepted) in (f .low, omega (arith, f .high, v .categories .1))
+
+-- a trial: with the code chosen, and where it is not as asked
+module _ {t ws : List ℕ} {rule : ℕ} {goal : CodedItem} {d : Daughters} {K : List ℕ} {k left : ℕ} {w : Wants} {c : ℕ} (T : Trial t ws rule goal d K k left w c) where
+  pub trial-on : Trying t ws rule goal (put d k (coded c)) K left
+  trial-on = trying-on k c left (T .trying) (T .below) (T .chooses) (T .there) refl
+
+  pub trial-off : (Meets w (knownOf c) → ⊥) → (x : ℕ) → Tried t ws rule goal (put d k (coded c)) K x → ⊥
+  trial-off n x v = n (tried-meets (T .trying) k (T .below) (T .chooses) c (T .there) x v w (T .asks))
+
+-- the walk over the spots for daughter k
+module _ {t ws : List ℕ} {rule : ℕ} {goal : CodedItem} {d : Daughters} {K : List ℕ} {left : ℕ} (T : Trying t ws rule goal d K left) (k : ℕ) (below : k < d .count) (o : Open d k) (w : Wants) (A : Asks t ws rule d goal k w)
+    (s : Spots) (S : SpotsFor t rule k w K s) where
+  pub trial : (i fewer : ℕ) → i < s .hi → fewer + 1 ≡ left → Trial t ws rule goal d K k fewer w (getD K i 0)
+  trial i fewer h e = record {
+    trying = subst (λ (l : ℕ). Trying t ws rule goal d K l) (sym e) T;
+    below = below;
+    chooses = o;
+    asks = A;
+    there = mem-at K i (omega (arith, S .end));
+  }
+
+  outside : (p : ℕ) → p < length K → (Inside s p → ⊥) → (x : ℕ) → Tried t ws rule goal (put d k (coded (getD K p 0))) K x → ⊥
+  outside p h n x v = n (S .has p h (tried-category T k below o (getD K p 0) (mem-at K p h) x v) (tried-meets T k below o (getD K p 0) (mem-at K p h) x v w A))
+
+  module _ {h : ℕ} {a : List ℕ} {n : ℕ} where
+    pub walk-begins : (i : ℕ) → Skips s 0 i → Ready K h a n → Filled K h (Some (take i K) (λ c. Tried t ws rule goal (put d k (coded c)) K)) a n a n
+    walk-begins i z y = jump K 0 i (z .on) (λ p u v l x q. outside p l (z .none p u v) x q) (loop-begins K y)
+
+    module _ {b : List ℕ} {m : ℕ} (i : ℕ) (f : Filled K h (Some (take i K) (λ c. Tried t ws rule goal (put d k (coded c)) K)) a n b m) where
+      pub walk-ends : s .hi ≤ i → Filled K h (Tried t ws rule goal d K) a n b m
+      walk-ends z = same (loop-ends K (Prim.Native.Nat.max i (length K)) (omega arith) (jump K i (Prim.Native.Nat.max i (length K)) (omega arith) (λ p u v l x q. outside p l (λ y. ⊎-elim (λ e. omega (arith, e .1, S .ordered .two, S .ordered .three)) (λ e. omega (arith, e .1)) y) x q) f))
+          (λ x q. one-chosen (T .partial .few) k below o (coded (q .which)) x (q .does)) (chosen-one (T .partial .few) k below o)
+
+      module _ (z : i < s .hi) (fit : m ≤ length a) (len : length b ≡ length a) {c : List ℕ} {r : ℕ} (v : Filled K h (Tried t ws rule goal (put d k (coded (getD K i 0))) K) b m c r) where
+        pub walk-turns : (j : ℕ) → Skips s (i + 1) j → Filled K h (Some (take j K) (λ c. Tried t ws rule goal (put d k (coded c)) K)) a n c r
+        walk-turns j y = jump K (i + 1) j (y .on) (λ p u w l x q. outside p l (y .none p u w) x q) (loop-turns K i (omega (arith, S .end)) f fit len v)
+
+        pub walk-stops : length a < r → Filled K h (Tried t ws rule goal d K) a n c r
+        walk-stops q = same (loop-stops K i (omega (arith, S .end)) f fit len v q)
+            (λ x q. one-chosen (T .partial .few) k below o (coded (q .which)) x (q .does)) (chosen-one (T .partial .few) k below o)
+
+-- where all are chosen none is left
+pub none-left : {t ws : List ℕ} {rule : ℕ} {goal : CodedItem} {d : Daughters} {K : List ℕ} {left : ℕ} → Trying t ws rule goal d K left → ((k : ℕ) → k < d .count → Open d k → ⊥) → Trying t ws rule goal d K 0
+none-left {t} {ws} {rule} {goal} {d} {K} T all = subst (λ (l : ℕ). Trying t ws rule goal d K l) (omega (arith, T .fewer, open-none d 0 (all 0), open-none d 1 (all 1), open-none d 2 (all 2))) T
+
+pub turn-next : {d : Daughters} {t : Turn} {k : ℕ} → Turns d t → t ≡ Daughter k → (k < d .count) × Open d k
+turn-next {d} (next-is l o) e = let q = same-turn e in (subst (λ (i : ℕ). i < d .count) q l, subst (λ (i : ℕ). Open d i) q o)
+  where
+    same-turn : {j k : ℕ} → Daughter j ≡ Daughter k → j ≡ k
+    same-turn f = cc
+turn-next (all-chosen n) e = let z : _≡_ {A = ℕ} 0 1 = cc in absurd (omega arith)
+
+pub turn-done : {d : Daughters} {t : Turn} → Turns d t → t ≡ Done → (k : ℕ) → k < d .count → Open d k → ⊥
+turn-done (next-is l o) e = let z : _≡_ {A = ℕ} 0 1 = cc in absurd (omega arith)
+turn-done (all-chosen n) e = n

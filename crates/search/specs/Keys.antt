@@ -23,3 +23,4 @@ pub record Asked (t ws K : List ℕ) (h : ℕ) : Type 0 where
   pub short : length ws ≤ 64
   pub exact : Exact (KeyMade t ws) K h
   pub low : h ≤ 2000
+  pub most : length K ≤ 2000

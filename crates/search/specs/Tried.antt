@@ -17,7 +17,7 @@ use Rattle.phrase.specs.declared.items.Daughters.{Daughters}
 use Rattle.phrase.specs.Phrase.{itemOf, RuleOf, Has, rowOf}
 use Rattle.meaning.specs.Decode.{ruleAt}
 use Rattle.hint.specs.declared.Wants.{Wants}
-use Rattle.hint.specs.Hint.{seat, Open, heldAs, Partial, Completes, Does, Meets}
+use Rattle.hint.specs.Hint.{seat, Open, heldAs, Partial, Completes, Does, Meets, Asks}
 use Rattle.search.specs.declared.spots.Spots.{Spots}
 use Rattle.search.specs.Spots.{Ordered, Inside}
 
@@ -62,6 +62,7 @@ opens d = open-at d 0 + open-at d 1 + open-at d 2
 pub record Trying (t ws : List ℕ) (rule : ℕ) (goal : CodedItem) (d : Daughters) (K : List ℕ) (left : ℕ) : Type 0 where
   pub there : RuleOf t rule
   pub short : length ws ≤ 64
+  pub most : length K ≤ 2000
   pub any : goal .category ≡ 0
   pub low : 1 ≤ goal .height
   pub high : goal .height ≤ 2001
@@ -97,3 +98,11 @@ pub record SpotsFor (t : List ℕ) (rule k : ℕ) (w : Wants) (K : List ℕ) (s 
 -- every daughter is chosen
 abbrev pub AllChosen : Daughters → Type 0
 AllChosen d = (k : ℕ) → k < d .count → Open d k → ⊥
+
+-- the code c of the set is tried as daughter k, of which w is asked; left daughters more are not chosen
+pub record Trial (t ws : List ℕ) (rule : ℕ) (goal : CodedItem) (d : Daughters) (K : List ℕ) (k left : ℕ) (w : Wants) (c : ℕ) : Type 0 where
+  pub trying : Trying t ws rule goal d K (left + 1)
+  pub below : k < d .count
+  pub chooses : Open d k
+  pub asks : Asks t ws rule d goal k w
+  pub there : Mem c K

@@ -9,7 +9,7 @@ ghost use Rattle.store.specs.Code as code;
 ghost use Rattle.store.specs.Set.{Sorted};
 ghost use Rattle.phrase.specs.Phrase.{rangeOf, itemsOf, RuleOf, rowOf};
 ghost use Rattle.search.specs.Level.{Ready, Filled};
-ghost use Rattle.search.specs.Tried.{coded, put, Tried, Trying, Ranged, Offered, Short, SpotsFor, AllChosen};
+ghost use Rattle.search.specs.Tried.{coded, put, Tried, Trying, Ranged, Offered, Short, SpotsFor, AllChosen, Trial};
 use crate::enter;
 use crate::spots::Spots;
 use crate::spots::first;
@@ -198,7 +198,19 @@ fn spots_for(table: &[u8], rule: usize, k: usize, w: Wants, known: &[u64]) -> Sp
     spots_of(known, r.low, r.high, r.low2, r.high2)
 }
 
-// Enters what the rule gives with these daughters and any known ones where they are not chosen yet; left of them are not.
+// Enters what the rule gives with a known item as daughter k, if it is as asked; left daughters more are not chosen.
+fn try_code(table: &[u8], words: &[u16], rule: usize, goal: Item, d: Daughters, k: usize, left: usize, w: Wants, c: u64, known: &[u64], fresh: &mut [u64], n: usize) -> usize
+    requires { ⌜ Ready (now known) (goal .height) (now fresh) n ⌝ }
+    requires { ⌜ Trial (now table) (now words) rule goal d (now known) k left w c ⌝ }
+    ensures { λ m. ⌜ Filled (now (known .entry)) (goal .height) (Tried (now (table .entry)) (now (words .entry)) rule goal (put d k (coded c)) (now (known .entry))) (now (fresh .entry)) n (now (fresh .exit)) m ⌝ }
+{
+    if meets(w, c) {
+        return extend(table, words, rule, goal, with(d, k, unpack(c)), left, known, fresh, n);
+    }
+    n
+}
+
+// Enters what the rule gives with these daughters, and known ones where left of them are not chosen yet.
 fn extend(table: &[u8], words: &[u16], rule: usize, goal: Item, d: Daughters, left: usize, known: &[u64], fresh: &mut [u64], n: usize) -> usize
     requires { ⌜ Ready (now known) (goal .height) (now fresh) n ⌝ }
     requires { ⌜ Trying (now table) (now words) rule goal d (now known) left ⌝ }
@@ -215,12 +227,9 @@ fn extend(table: &[u8], words: &[u16], rule: usize, goal: Item, d: Daughters, le
     let mut m = n;
     let mut i = first(s);
     while i < end {
-        let c = known[i];
-        if meets(w, c) {
-            m = extend(table, words, rule, goal, with(d, k, unpack(c)), fewer, known, fresh, m);
-            if fresh.len() < m {
-                return m;
-            }
+        m = try_code(table, words, rule, goal, d, k, fewer, w, known[i], known, fresh, m);
+        if fresh.len() < m {
+            return m;
         }
         i = next(s, i);
     }

@@ -6,3 +6,4 @@ pub mod Keys
 pub mod Whole
 pub mod Choosing
 pub mod Offers
+pub mod Ruling

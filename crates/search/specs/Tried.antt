@@ -15,7 +15,7 @@ use Rattle.store.specs.Code.{unpacked, knownOf}
 use Rattle.phrase.specs.declared.items.Item.{Item as CodedItem}
 use Rattle.phrase.specs.declared.items.Daughters.{Daughters}
 use Rattle.phrase.specs.Phrase.{itemOf, RuleOf, Has, rowOf}
-use Rattle.meaning.specs.Decode.{ruleAt}
+use Rattle.meaning.specs.Decode.{past, ruleAt, ruleEnd, firstRule}
 use Rattle.hint.specs.declared.Wants.{Wants}
 use Rattle.hint.specs.Hint.{seat, Open, heldAs, Partial, Completes, Does, Meets, Asks}
 use Rattle.search.specs.declared.spots.Spots.{Spots}
@@ -106,3 +106,16 @@ pub record Trial (t ws : List ℕ) (rule : ℕ) (goal : CodedItem) (d : Daughter
   pub chooses : Open d k
   pub asks : Asks t ws rule d goal k w
   pub there : Mem c K
+
+-- no item, at a height; and no daughters of so many
+abbrev pub blankItem : ℕ → CodedItem
+blankItem h = record { category = 0; height = h; ends = 0 ∷ 0 ∷ 0 ∷ 0 ∷ 0 ∷ 0 ∷ [] }
+
+abbrev pub noneOf : ℕ → Daughters
+noneOf n = record { count = n; one = blankItem 0; two = blankItem 0; three = blankItem 0 }
+
+-- one of the first n rules gives the item of key x from known items, of which the tallest has height h
+pub record ByRules (t ws K : List ℕ) (h n x : ℕ) : Type 0 where
+  pub index : ℕ
+  pub below : index < n
+  pub tried : Tried t ws (past index (ruleEnd t) (firstRule t)) (blankItem (h + 1)) (noneOf (rankOf t (past index (ruleEnd t) (firstRule t)))) K x

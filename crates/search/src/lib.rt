@@ -7,6 +7,11 @@ pub use spots::first;
 pub use spots::next;
 pub use spots::spots_of;
 
+use crate::trying::combine;
+use table::first_rule;
+use table::rule_count;
+use table::rule_end;
+
 ghost use mathlib.Core.Path.{_≡_};
 ghost use Prim.Native.Nat.{ℕ, _+_, _-_, _*_, _<_, _≤_, _^_};
 ghost use lib.ListN.{length};
@@ -31,7 +36,21 @@ fn level(table: &[u8], words: &[u16], known: &[u64], fresh: &mut [u64], h: u64) 
     requires { ⌜ Asked (now table) (now words) (now known) h ⌝ }
     ensures { λ q. ⌜ Filled (now (known .entry)) (h + 1) (Level (KeyGiven (now (table .entry)) (now (words .entry))) (now (known .entry)) h) (now (fresh .entry)) 0 (now (fresh .exit)) q ⌝ }
 {
-    0
+    let next = h + 1;
+    let height = (next % 65536) as u16;
+    let count = rule_count(table);
+    let mut rule = first_rule(table);
+    let mut m = 0;
+    let mut i = 0;
+    while i < count {
+        m = combine(table, words, rule, known, fresh, m, height);
+        if fresh.len() < m {
+            return m;
+        }
+        rule = rule_end(table, rule);
+        i += 1;
+    }
+    m
 }
 
 // One level more: how many items are new, or more than there is room for.

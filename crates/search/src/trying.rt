@@ -9,7 +9,7 @@ ghost use Rattle.store.specs.Code as code;
 ghost use Rattle.store.specs.Set.{Sorted};
 ghost use Rattle.phrase.specs.Phrase.{rangeOf, itemsOf, RuleOf, rowOf};
 ghost use Rattle.search.specs.Level.{Ready, Filled};
-ghost use Rattle.search.specs.Tried.{coded, put, Tried, Trying, Ranged, Offered, Short, SpotsFor, AllChosen, Trial};
+ghost use Rattle.search.specs.Tried.{coded, put, Tried, Trying, Ranged, Offered, Short, SpotsFor, AllChosen, Trial, blankItem, noneOf};
 use crate::enter;
 use crate::spots::Spots;
 use crate::spots::first;
@@ -234,4 +234,39 @@ fn extend(table: &[u8], words: &[u16], rule: usize, goal: Item, d: Daughters, le
         i = next(s, i);
     }
     m
+}
+
+// No item, at a height.
+fn blank_item(h: u16) -> Item
+    ensures { λ r. ⌜ r ≡ blankItem h ⌝ }
+{
+    Item {
+        category: 0,
+        height: h,
+        ends: [0, 0, 0, 0, 0, 0],
+    }
+}
+
+// So many daughters, none of them chosen.
+fn none_of(count: usize) -> Daughters
+    ensures { λ r. ⌜ r ≡ noneOf count ⌝ }
+{
+    let none = blank_item(0);
+    Daughters {
+        count: count,
+        one: none,
+        two: none,
+        three: none,
+    }
+}
+
+// Enters what the rule gives from known items at a height.
+pub fn combine(table: &[u8], words: &[u16], rule: usize, known: &[u64], fresh: &mut [u64], n: usize, h: u16) -> usize
+    requires { ⌜ Ready (now known) h (now fresh) n ⌝ }
+    requires { ⌜ Trying (now table) (now words) rule (blankItem h) (noneOf (rankOf (now table) rule)) (now known) (rankOf (now table) rule) ⌝ }
+    ensures { λ m. ⌜ Filled (now (known .entry)) h (Tried (now (table .entry)) (now (words .entry)) rule (blankItem h) (noneOf (rankOf (now (table .entry)) rule)) (now (known .entry))) (now (fresh .entry)) n (now (fresh .exit)) m ⌝ }
+{
+    let fourth = rule + 3;
+    let rank = size(byte_at(table, fourth));
+    extend(table, words, rule, blank_item(h), none_of(rank), rank, known, fresh, n)
 }

@@ -2,7 +2,6 @@ use native.Mathlib.Omega.{arith}
 use mathlib.Core.Path.{_≡_, sym, ap, _∙_}
 use Prim.Native.Nat.{ℕ, _+_}
 use lib.ListN.{length-take}
-use lib.Seq.{length-take-le}
 use Rattle.search.proofs.Keys.{key-deduction}
 use Rattle.search.proofs.Steps.{level-full, level-done, fresh-size, merge-ready, level-on}
 use borrow.Author.Needs.{needs}
@@ -29,7 +28,7 @@ slice-aggregate-level-2 : tie.Need-slice-aggregate-level-2
 slice-aggregate-level-2 c = simp length-take (omega (arith, c .before .before .before .before .before .before .pre .0 .fits-fresh, c .before .before .before .before .before .before .pre .0 .count))
 
 level-requires : tie.Need-level-requires
-level-requires c κs = record { accepted = c .before .before .before .before .before .before .pre .1 .0; short = c .before .before .before .before .before .before .pre .1 .1; exact = c .before .before .before .before .before .before .pre .0 .exact; low = omega (arith, c .before .before .before .before .before .before .pre .0 .levels, c .before .before .before .before .before .before .pre .0 .count, c .before .before .before .before .before .before .pre .0 .small); most = omega (arith, length-take-le _ _ (omega (arith, c .before .before .before .before .before .before .pre .0 .levels, c .before .before .before .before .before .before .pre .0 .count, c .before .before .before .before .before .before .pre .0 .small)), c .before .before .before .before .before .before .pre .0 .levels, c .before .before .before .before .before .before .pre .0 .count, c .before .before .before .before .before .before .pre .0 .small) }
+level-requires c κs = record { accepted = c .before .before .before .before .before .before .pre .1 .0; short = c .before .before .before .before .before .before .pre .1 .1; exact = c .before .before .before .before .before .before .pre .0 .exact; low = omega (arith, c .before .before .before .before .before .before .pre .0 .levels, c .before .before .before .before .before .before .pre .0 .count, c .before .before .before .before .before .before .pre .0 .small); most = simp length-take (omega (arith, c .before .before .before .before .before .before .pre .0 .levels, c .before .before .before .before .before .before .pre .0 .count, c .before .before .before .before .before .before .pre .0 .small)) }
 
 same-length : tie.Need-same-length
 same-length c = search needs

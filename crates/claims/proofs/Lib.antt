@@ -1,1 +1,4 @@
 pub mod Heights
+pub mod Alike
+pub mod Carry
+pub mod FirstBytes

@@ -39,6 +39,11 @@ module _ (Q : Refusal → Refusal → Type 0) where
   alike-map f (both-got {a = a} {b = b} r) = both-got (f a b r)
   alike-map f (both-refused q) = both-refused q
 
+  -- what is read from the one is read from the other
+  pub alike-got : {A B : Type 0} {R : A → B → Type 0} {x : Got A} {y : Got B} {a : A} → Alike Q R x y → x ≡ got a → (b : B) × (y ≡ got b)
+  alike-got (both-got {b = b} r) e = (b, refl)
+  alike-got (both-refused q) e = let z : _≡_ {A = ℕ} 0 1 = cc in absurd (omega arith)
+
   -- the same number of turns, while I says that there is room for them
   pub times-alike : {S T : Type 0} (I : ℕ → S → Type 0) (R : S → T → Type 0) (f : S → Got S) (g : T → Got T)
       → ((n : ℕ) (a : S) (b : T) → I (suc n) a → R a b → Alike Q R (f a) (g b))

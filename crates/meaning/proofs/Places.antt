@@ -17,7 +17,7 @@ past-grows zero next one at = omega arith
 past-grows (suc n) next one at = let h = past-grows n next one (next at) in omega (arith, one at)
 
 -- n parts of at most k bytes, which number at most m, take at most m of them
-pub past-most : (n m k : ℕ) (next : ℕ → ℕ) (at b : ℕ) → n ≤ m → ((i : ℕ) → i < n → next (past i next at) ≤ past i next at + k) → at + m * k ≤ b → past n next at ≤ b
+past-most : (n m k : ℕ) (next : ℕ → ℕ) (at b : ℕ) → n ≤ m → ((i : ℕ) → i < n → next (past i next at) ≤ past i next at + k) → at + m * k ≤ b → past n next at ≤ b
 unfolding past
 past-most zero m k next at b h one l = omega arith
 past-most (suc n) zero k next at b h one l = absurd (omega arith)
@@ -25,7 +25,7 @@ past-most (suc n) (suc m) k next at b h one l =
     past-most n m k next (next at) b (omega arith) (λ i j. one (suc i) (omega arith)) (let f = one 0 (omega arith) in omega arith)
 
 -- the parts' sizes: a row is at most 49 bytes, a rule at most 154
-pub row-most : (t : List ℕ) (rule at : ℕ) → FineRow t rule at → rowEnd t at ≤ at + 49
+row-most : (t : List ℕ) (rule at : ℕ) → FineRow t rule at → rowEnd t at ≤ at + 49
 unfolding rowEnd
 row-most t rule at f = past-most (byte t at) 16 3 (λ p. p + 3) (at + 1) (at + 49) (f .short) (λ i h. omega arith) (omega arith)
 

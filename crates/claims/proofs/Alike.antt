@@ -4,18 +4,18 @@
 use Prim.Native.Nat.{ℕ, zero, suc, _+_, _*_, _-_, _≤_, _<_}
 use mathlib.Core.Path.{_≡_, refl, sym, ap, ap₂, _∙_, subst}
 use mathlib.Core.Bool.{Bool, true, false, not, cond, _||_}
-use mathlib.Core.List.{List, [], _∷_}
+use mathlib.Core.List.{List, _∷_}
 use native.Mathlib.Omega.{arith}
 use lib.ListN.{length}
 use lib.Dec.{ltb, eqb}
 use borrow.Author.Tests.{ltb-false, le-ltb, eqb-false}
 use Rattle.meaning.specs.declared.Refusal.{Refusal}
-use Rattle.meaning.specs.declared.Refusal.the-variants.{Short, Mark, Version, Range, Category, Function, Symbol, Twice, Missing, Start, Trailing}
-use Rattle.meaning.specs.Table.{Got, got, refused, _>>=_, _>>_, refuse-if, times, any, member, outside, byte, number, byteField, numberField, symbolField, limited, dimension, category, rank, Used, unused, mark, word, part, symbol, row, missing, rankOf, categoryOf, daughterOf, dimensionOf, ruleHead, ruleBody, rule, limits, header}
-use Rattle.meaning.specs.Decode.{past, rowEnd, rowsOf, ruleEnd}
+use Rattle.meaning.specs.declared.Refusal.the-variants.{Range, Category, Function, Symbol, Twice, Missing}
+use Rattle.meaning.specs.Table.{Got, got, refused, _>>=_, _>>_, refuse-if, times, any, member, outside, byte, number, byteField, numberField, symbolField, limited, dimension, category, rank, Used, unused, word, part, symbol, row, missing, rankOf, categoryOf, daughterOf, dimensionOf, ruleHead, ruleBody, rule, limits, header}
+use Rattle.meaning.specs.Decode.{past, rowEnd, rowsOf}
 use Rattle.meaning.proofs.Fields.{both, same, limited-there, headed}
 use Rattle.meaning.proofs.Ends.{head-more, symbol-end, row-end, category-end, In, times-past}
-use Rattle.meaning.proofs.Places.{past-one, past-grows, row-is, rows-are, row-grows}
+use Rattle.meaning.proofs.Places.{past-one, row-is, rows-are}
 
 -- two readings: both give values, of which R holds, or both refuse, with refusals of which Q holds
 pub data Alike (Q : Refusal → Refusal → Type 0) {A B : Type 0} (R : A → B → Type 0) : Got A → Got B → Type 0 where

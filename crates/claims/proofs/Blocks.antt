@@ -1,16 +1,15 @@
 -- A table is its header and dimensions h and the bytes of its rules. Taken apart, each rule's bytes are a rule after h alone (`taken`); put
 -- together again after h, bytes that are rules with different functions are read one after another to the end (`put-all`).
-use Prim.Native.Nat.{ℕ, zero, suc, _+_, _*_, _-_, _≤_, _<_}
+use Prim.Native.Nat.{ℕ, _+_, _≤_}
 use mathlib.Core.Path.{_≡_, refl, sym, ap, ap₂, _∙_, subst}
-use mathlib.Core.Bool.{Bool, true, false, _||_}
+use mathlib.Core.Bool.{false}
 use mathlib.Core.List.{List, [], _∷_, _++_, map, flatten, append-assoc, append-nil}
 use native.Mathlib.Omega.{arith}
 use lib.ListN.{length, length-append, List·getD-append}
 use lib.Seq.{length-slice, getD-append-add}
-use lib.Dec.{eqb}
 use borrow.Author.Tests.{ne-eqb}
-use Rattle.meaning.specs.Table.{Got, got, times, member, byte, number, rule}
-use Rattle.meaning.specs.Order.{Each, each-none, each-more, Sorted, sorted-none, sorted-more}
+use Rattle.meaning.specs.Table.{got, times, member, byte, rule}
+use Rattle.meaning.specs.Order.{Each, each-none, each-more, Sorted, sorted-more}
 use Rattle.meaning.specs.Grammar.{Rule}
 use Rattle.meaning.specs.Decode.{several, ruleAt, ruleEnd}
 use Rattle.meaning.proofs.Order.{each-both}
@@ -42,6 +41,10 @@ pub record Stands (h B : List ℕ) : Type 0 where
 abbrev pub decode : List ℕ → List ℕ → Rule
 decode h B = ruleAt (h ++ B) (length h)
 
+-- the bytes of the rule of t at a place are a rule after h, and that rule
+abbrev pub Taken : List ℕ → List ℕ → ℕ → Type 0
+Taken h t at = Stands h (bytesAt t at) × (ruleAt t at ≡ decode h (bytesAt t at))
+
 -- the functions of such rules
 abbrev pub functionsOf : List ℕ → List (List ℕ) → List ℕ
 functionsOf h bs = map (λ (r : Rule). r .function) (map (decode h) bs)
@@ -67,8 +70,7 @@ module _ (h : List ℕ) (full : 9 + byte h 5 ≡ length h) where
           bytes = λ i l. sym (getD-append-add h (bytesAt t at) i 0 ∙ slice-at at (ruleEnd t at) t i l);
         }
 
-    pub taken : (s s′ : ℕ × List ℕ) → rule t s ≡ got s′
-        → Stands h (bytesAt t (s .0)) × (ruleAt t (s .0) ≡ decode h (bytesAt t (s .0)))
+    pub taken : (s s′ : ℕ × List ℕ) → rule t s ≡ got s′ → Taken h t (s .0)
     unfolding member
     taken s s′ r =
         let at : ℕ = s .0 in

@@ -1,24 +1,19 @@
 -- What the definitions say hangs on a grammar's rules as a set: where two tables are checked alike and, if they are accepted, their
 -- grammars have the same start and the same rules, in whatever order, each result that a call's definition allows for the one it allows
 -- for the other. The main statements: `read-carried`, `tree-carried`, `sentence-carried`.
-use Prim.Native.Nat.{ℕ, zero, suc, _+_, _*_, _≤_, _<_}
+use Prim.Native.Nat.{ℕ, suc}
 use mathlib.Core.Path.{_≡_, refl, sym, ap, ap₂, _∙_, subst, fun-ext}
-use mathlib.Core.Logic.{_⊎_, inl, inr}
 use mathlib.Core.Option.{Option, none, some}
 use mathlib.Core.List.{List, [], _∷_, List·Memᴰ as Mem}
-use native.Mathlib.Omega.{arith}
-use lib.ListN.{length, getD, take}
-use lib.Seq.{slice}
-use Rattle.meaning.specs.declared.Refusal.{Refusal}
-use Rattle.meaning.specs.Table.{Got, got, refused, _>>_, checkTable}
-use Rattle.meaning.specs.Decode.{several, grammarOf, wordsOf, checkWords, checkInput}
-use Rattle.meaning.specs.Order.{Each, Sorted}
+use lib.ListN.{length}
+use Rattle.meaning.specs.Table.{got, checkTable}
+use Rattle.meaning.specs.Decode.{several, grammarOf, wordsOf, checkInput}
 use Rattle.meaning.specs.Range.{Item, none as empty}
 use Rattle.meaning.specs.Grammar.{Rule, Grammar, Tree, node, Trees, bare, and, Of, of, OfAll, of-none, of-more}
-use Rattle.meaning.specs.Giving.{Makes, True, Gives}
+use Rattle.meaning.specs.Giving.{Makes, True}
 use Rattle.meaning.specs.Valid.{Valid}
-use Rattle.meaning.specs.Chart.{Known, Entry, Way, Least, Chosen, Made, GivenBy, ChartOf, knowns, items, shown}
-use Rattle.meaning.specs.Reading.{room, goal, Over, Deep, Verdict, yes-at, no-goal, Read, bad-input, full, deep, read}
+use Rattle.meaning.specs.Chart.{Known, Entry, Way, Least, Made, GivenBy, ChartOf}
+use Rattle.meaning.specs.Reading.{goal, Over, Deep, Verdict, yes-at, no-goal, Read, bad-input, full, deep, read}
 use Rattle.meaning.specs.TreeWriting as tree
 use Rattle.meaning.specs.SentenceWriting.{walk, fault, Reads, SentenceWritten, bad-table, too-many, wrong, no-room, wrote}
 use Rattle.meaning.proofs.Order.{each-map}
@@ -31,6 +26,19 @@ pub record SameRules (G H : Grammar) : Type 0 where
   pub to : (r : Rule) → Mem r (G .rules) → Mem r (H .rules)
   pub back : (r : Rule) → Mem r (H .rules) → Mem r (G .rules)
   pub names : tree.named (G .rules) ≡ tree.named (H .rules)
+
+-- in valid grammars a rule is found by its number alone, whatever stands before it
+found-same : {G H : Grammar} → Valid G → Valid H → ((r : Rule) → Mem r (G .rules) → Mem r (H .rules)) → ((r : Rule) → Mem r (H .rules) → Mem r (G .rules))
+    → (f : ℕ) → tree.named (G .rules) f ≡ tree.named (H .rules) f
+found-same {G} {H} v v′ to back f = go (tree.named (G .rules) f) refl (tree.named (H .rules) f) refl
+  where
+    go : (x : Option Rule) → tree.named (G .rules) f ≡ x → (y : Option Rule) → tree.named (H .rules) f ≡ y → x ≡ y
+    go none p none q = refl
+    go (some r) p y q = let (m, e) = named-is (G .rules) f p in sym (ap (tree.named (H .rules)) (sym e) ∙ found v′ r (to r m)) ∙ q
+    go none p (some r) q = let (m, e) = named-is (H .rules) f q in sym p ∙ ap (tree.named (G .rules)) (sym e) ∙ found v r (back r m)
+
+pub same-set : {G H : Grammar} → Valid G → Valid H → G .start ≡ H .start → ((r : Rule) → Mem r (G .rules) → Mem r (H .rules)) → ((r : Rule) → Mem r (H .rules) → Mem r (G .rules)) → SameRules G H
+same-set v v′ start to back = record { start = start; to = to; back = back; names = fun-ext (found-same v v′ to back) }
 
 pub turned : {G H : Grammar} → SameRules G H → SameRules H G
 turned s = record { start = sym (s .start); to = s .back; back = s .to; names = sym (s .names) }

@@ -1,22 +1,21 @@
 -- 'No valid table exceeds 39,497 bytes, so a program that reads the first 40,000 bytes gives the same answer as for the whole file.'
 -- The main statements: `check-first`, that the two are checked alike, and `read-first`, `tree-first`, `sentence-first`, that the three
 -- calls' definitions allow the same results for both.
-use Prim.Native.Nat.{ℕ, zero, suc, _+_, _*_, _-_, _≤_, _<_}
+use Prim.Native.Nat.{ℕ, suc, _+_, _*_, _≤_}
 use mathlib.Core.Path.{_≡_, refl, sym, ap, _∙_, subst}
 use mathlib.Core.Logic.{_↔_}
-use mathlib.Core.Bool.{Bool, true, false, not}
-use mathlib.Core.List.{List, [], _∷_}
+use mathlib.Core.Bool.{not}
+use mathlib.Core.List.{List, []}
 use native.Mathlib.Omega.{arith}
 use native.Mathlib.Decide.{decLe}
 use lib.ListN.{length, take}
 use lib.Seq.{take-all, length-take-le, getD-take}
 use lib.Dec.{ltb, eqb}
 use borrow.Author.Tests.{lt-ltb}
-use Rattle.meaning.specs.declared.Refusal.{Refusal}
 use Rattle.meaning.specs.declared.Refusal.the-variants.{Start, Trailing}
-use Rattle.meaning.specs.Table.{Got, got, refused, _>>=_, _>>_, refuse-if, times, byte, number, header, dimension, dimensionOf, categoryOf, rankOf, rule, rules, checkTable}
+use Rattle.meaning.specs.Table.{got, _>>=_, _>>_, refuse-if, times, byte, number, header, dimension, dimensionOf, categoryOf, rule, rules, checkTable}
 use Rattle.meaning.specs.Decode.{grammarOf}
-use Rattle.meaning.specs.Accepted.{Dims, FineRule}
+use Rattle.meaning.specs.Accepted.{Dims}
 use Rattle.meaning.specs.Reading.{Read}
 use Rattle.meaning.specs.TreeWriting.{TreeWritten}
 use Rattle.meaning.specs.SentenceWriting.{SentenceWritten}

@@ -1,23 +1,22 @@
 -- Deep is never given: where an item's least height is h there are items of every height from h down to 1, so h different true items, and
 -- with more than 2,000 of them the chart is Over any room. The main statement: `never-deep`.
 use mathlib.Core.Path.{_≡_, refl, sym, ap, _∙_, subst}
-use mathlib.Core.List.{List, [], _∷_, map, List·Memᴰ as Mem, List·Memᴰ·head as here, List·Memᴰ·tail as there}
-use Prim.Native.Nat.{ℕ, zero, suc, _≤_, _<_, max}
+use mathlib.Core.List.{List, [], _∷_, List·Memᴰ as Mem}
+use Prim.Native.Nat.{ℕ, zero, suc, _≤_, _<_}
 use native.Mathlib.Omega.{arith}
 use native.Mathlib.Decide.{decLe}
 use lib.ListN.{length, length-map}
 use Rattle.meaning.specs.declared.Refusal.{Refusal}
 use Rattle.meaning.specs.declared.Refusal.the-variants.{Short, Mark, Version, Range, Category, Function, Symbol, Twice, Missing, Start, Trailing, Long, Odd, ZeroWord}
 use Rattle.meaning.specs.Refusals.{codeOf}
-use Rattle.meaning.specs.Table.{got}
-use Rattle.meaning.specs.Decode.{grammarOf, wordsOf, checkInput}
+use Rattle.meaning.specs.Decode.{grammarOf, wordsOf}
 use Rattle.meaning.specs.Order.{Each, each-none, each-more, Sorted, sorted-none, sorted-more}
 use Rattle.meaning.specs.Range.{Item}
 use Rattle.meaning.specs.Grammar.{Grammar}
 use Rattle.meaning.specs.Giving.{True}
 use Rattle.meaning.specs.Valid.{Valid}
 use Rattle.meaning.specs.Chart.{Known, Entry, tallest, Least, Made, item, things}
-use Rattle.meaning.specs.Reading.{room, Over, Deep, Verdict, yes-at, no-goal, Read, bad-input, full, deep, read}
+use Rattle.meaning.specs.Reading.{room, Over, Verdict, yes-at, no-goal, Read, bad-input, full, deep, read}
 use Rattle.meaning.proofs.Order.{each-at, each-of, each-map, each-both, Nodup}
 use Rattle.meaning.proofs.Theory.{Deduction, bounded, map-mem}
 use Rattle.meaning.proofs.Charts.{deduction}

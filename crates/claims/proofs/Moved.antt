@@ -1,18 +1,15 @@
 -- A rule's bytes say the same wherever they stand. Where u has from q on the bytes that t has from p up to e, and the same dimensions, a rule
 -- of t that ends before e is decoded from u as the same rule (`rule-same`), and if it was read from t without a refusal so it is from u
 -- (`rule-moved`).
-use Prim.Native.Nat.{ℕ, zero, suc, _+_, _*_, _-_, _≤_, _<_}
-use mathlib.Core.Path.{_≡_, refl, sym, ap, ap₂, _∙_, subst}
-use mathlib.Core.Bool.{Bool, true, false, cond}
-use mathlib.Core.List.{List, [], _∷_}
+use Prim.Native.Nat.{ℕ, zero, suc, _+_, _*_, _-_, _≤_}
+use mathlib.Core.Path.{_≡_, refl, sym, ap, ap₂, _∙_}
+use mathlib.Core.Bool.{false, cond}
+use mathlib.Core.List.{List, _∷_}
 use native.Mathlib.Omega.{arith}
-use lib.ListN.{length}
 use lib.Dec.{eqb}
-use Rattle.meaning.specs.declared.Refusal.{Refusal}
-use Rattle.meaning.specs.Table.{Got, got, refused, member, byte, number, rankOf, categoryOf, dimensionOf, rule}
-use Rattle.meaning.specs.Grammar.{Symbol, word, part, Rule}
+use Rattle.meaning.specs.Table.{got, member, byte, number, rankOf, categoryOf, dimensionOf, rule}
+use Rattle.meaning.specs.Grammar.{word, part}
 use Rattle.meaning.specs.Decode.{past, several, symbolAt, rowAt, rowEnd, rowsOf, ruleAt, ruleEnd}
-use Rattle.meaning.proofs.Ends.{rule-end}
 use Rattle.meaning.proofs.Functions.{joins}
 use Rattle.meaning.proofs.Places.{past-grows, row-is, rows-are, row-grows, rule-grows}
 use Rattle.claims.proofs.Alike.{alike-got, Window, At, at-more, SameTop, RowRoom, RuleRoom, byte-same, number-same, rule-alike}

@@ -1,12 +1,16 @@
 -- What a list in another order keeps: its length, its members, what holds of each member or of any two, and its images.
 use mathlib.Core.Path.{_≡_, refl, ap, _∙_}
 use mathlib.Core.List.{List, [], _∷_, map, List·Memᴰ as Mem, List·Memᴰ·head as here, List·Memᴰ·tail as there}
-use Prim.Native.Nat.{ℕ, suc}
+use Prim.Native.Nat.{suc}
 use lib.ListN.{length}
 use Rattle.meaning.specs.Order.{Each, each-none, each-more, Sorted, sorted-none, sorted-more}
 use Rattle.claims.specs.Reordered.{Permuted, none, keep, swap, then}
 
 module _ {A : Type 0} where
+  pub permuted-itself : (l : List A) → Permuted l l
+  permuted-itself [] = none
+  permuted-itself (a ∷ l) = keep (permuted-itself l)
+
   pub permuted-back : {l m : List A} → Permuted l m → Permuted m l
   permuted-back none = none
   permuted-back (keep p) = keep (permuted-back p)

@@ -2,39 +2,35 @@
 -- grammar has the same start and dimensions, and the same rules in another order (`order-grammar`), and each of the three calls' definitions
 -- allows the same results for both (`read-order`, `tree-order`, `sentence-order`); so any two results, one for each table, are equal
 -- (`same-read-order`, `same-tree-order`, `same-sentence-order`).
-use Prim.Native.Nat.{ℕ, zero, suc, _+_, _*_, _-_, _≤_, _<_}
-use mathlib.Core.Path.{_≡_, refl, sym, ap, ap₂, _∙_, subst, subst₂, subst₃, fun-ext}
-use mathlib.Core.Bool.{Bool, true, false, not}
+use Prim.Native.Nat.{ℕ, zero, suc, _+_, _≤_, _<_}
+use mathlib.Core.Path.{_≡_, refl, sym, ap, ap₂, _∙_, subst, subst₂, subst₃}
+use mathlib.Core.Bool.{not}
 use mathlib.Core.Logic.{_↔_}
-use mathlib.Core.Option.{Option, none, some}
-use mathlib.Core.List.{List, [], _∷_, _++_, map, flatten, List·Memᴰ as Mem}
+use mathlib.Core.List.{List, [], _∷_, _++_, map, flatten}
 use native.Mathlib.Omega.{arith}
-use lib.ListN.{length, take, drop, take-append-drop}
-use lib.Seq.{length-take-le, getD-take}
-use lib.Dec.{ltb, eqb}
-use borrow.Author.Tests.{le-ltb, eqb-true, not-false}
-use Rattle.meaning.specs.Table.{Got, got, times, member, byte, number, header, dimension, dimensionOf, rule, rules, checkTable}
+use lib.ListN.{length, drop, take-append-drop}
+use lib.Seq.{slice, slice-empty, take-length, length-take-le, getD-take}
+use lib.Dec.{eqb}
+use borrow.Author.Tests.{le-ltb}
+use Rattle.meaning.specs.Table.{got, times, member, byte, number, header, dimension, dimensionOf, rule, rules, checkTable}
 use Rattle.meaning.specs.Decode.{past, several, ruleAt, ruleEnd, firstRule, grammarOf}
 use Rattle.meaning.specs.Order.{Each, Sorted}
-use Rattle.meaning.specs.Grammar.{Rule, Grammar}
-use Rattle.meaning.specs.Valid.{Valid}
-use Rattle.meaning.specs.Accepted.{FineTable}
 use Rattle.meaning.specs.Reading.{Read}
-use Rattle.meaning.specs.TreeWriting.{named, TreeWritten}
+use Rattle.meaning.specs.TreeWriting.{TreeWritten}
 use Rattle.meaning.specs.SentenceWriting.{SentenceWritten}
 use Rattle.meaning.proofs.Order.{each-of}
+use Rattle.meaning.proofs.Spans.{slice-join}
 use Rattle.meaning.proofs.Fields.{after, both, same, header-there}
-use Rattle.meaning.proofs.Ends.{times-past, rule-end, unrefused, first-there, fine-table}
+use Rattle.meaning.proofs.Ends.{times-past, rule-end, first-there, fine-table}
 use Rattle.meaning.proofs.Places.{past-grows, first-is, rule-grows′}
 use Rattle.meaning.proofs.Decoded.{several-length, several-mem, valid-grammar}
-use Rattle.meaning.proofs.Walk.{named-is, found}
 use Rattle.meaning.proofs.Determined.{Same, same-read, same-tree, same-sentence}
-use Rattle.claims.specs.Reordered.{Permuted, bytesAt, ruleBytes, Reordered}
-use Rattle.claims.proofs.Permutation.{permuted-back, permuted-length, permuted-mem, permuted-each, permuted-sorted, permuted-map}
+use Rattle.claims.specs.Reordered.{Permuted, headBytes, bytesAt, ruleBytes, Reordered}
+use Rattle.claims.proofs.Permutation.{permuted-itself, permuted-back, permuted-length, permuted-mem, permuted-each, permuted-sorted, permuted-map}
 use Rattle.claims.proofs.Alike.{Window, at-start, byte-same, number-same, header-same, dims-same}
 use Rattle.claims.proofs.Moved.{several-same}
-use Rattle.claims.proofs.Blocks.{front, Stands, decode, functionsOf, taken, Put, put-all}
-use Rattle.claims.proofs.Carry.{SameRules, turned, read-carried, tree-carried, sentence-carried}
+use Rattle.claims.proofs.Blocks.{front, Stands, decode, Taken, functionsOf, taken, Put, put-all}
+use Rattle.claims.proofs.Carry.{SameRules, same-set, turned, read-carried, tree-carried, sentence-carried}
 
 -- the parts of a check that refuses nothing
 record Parts (t : List ℕ) : Type 0 where
@@ -57,13 +53,14 @@ parts t e =
     let r = both (rules t (number t 7) (d .0)) _ tt (s .1) in
     let u = both (times (number t 7) (rule t) (d .0, [])) _ (r .0) (r .1) in
     let q : times (number t 7) (rule t) (firstRule t, []) ≡ got (u .0) = rw (← f) (u .1) in
+    let last : u .0 .0 ≡ past (number t 7) (ruleEnd t) (firstRule t) = times-past (λ s. s .0) (ruleEnd t) (λ _. Unit {0}) (rule t) (λ s s′ r. (rule-end t s s′ r .0, tt)) (number t 7) (firstRule t, []) (u .0) q .0 in
     record {
       head = h .1 ∙ ap got (n .0);
       dims = ap (times (byte t 5) (dimension t)) (sym (n .0)) ∙ d .1 ∙ ap got f;
       start = v .one;
       state = u .0;
       read = q;
-      end = times-past (λ s. s .0) (ruleEnd t) (λ _. Unit {0}) (rule t) (λ s s′ r. (rule-end t s s′ r .0, tt)) (number t 7) (firstRule t, []) (u .0) q .0 ∙ v .end;
+      end = last ∙ v .end;
     }
 
 whole : (t : List ℕ) → Parts t → checkTable t ≡ got tt
@@ -79,53 +76,54 @@ several-map g f k next (suc n) at h = ap₂ _∷_ (h 0 (omega arith)) (several-m
 
 -- an accepted table: its header and dimensions, its rules' bytes after them, each a rule, and its grammar's rules are these
 module _ (t : List ℕ) (e : checkTable t ≡ got tt) where
-  abbrev h : List ℕ
-  h = take (firstRule t) t
-
   first-fits : firstRule t ≤ length t
   first-fits = omega (arith, past-grows (number t 7) (ruleEnd t) (rule-grows′ t) (firstRule t), fine-table t e .end)
 
-  length-h : length h ≡ firstRule t
-  length-h = length-take-le (firstRule t) t first-fits
+  length-head : length (headBytes t) ≡ firstRule t
+  length-head = length-take-le (firstRule t) t first-fits
 
-  full : 9 + byte h 5 ≡ length h
-  full = omega (arith, length-h, first-is t, getD-take (firstRule t) t 5 0 (omega (arith, first-is t)))
+  full : 9 + byte (headBytes t) 5 ≡ length (headBytes t)
+  full = omega (arith, length-head, first-is t, getD-take (firstRule t) t 5 0 (omega (arith, first-is t)))
 
-  begins : t ≡ h ++ drop (firstRule t) t
+  begins : t ≡ headBytes t ++ drop (firstRule t) t
   begins = sym (take-append-drop (firstRule t) t)
 
-  each-taken : (i : ℕ) → i < number t 7 → Stands h (bytesAt t (past i (ruleEnd t) (firstRule t))) × (ruleAt t (past i (ruleEnd t) (firstRule t)) ≡ decode h (bytesAt t (past i (ruleEnd t) (firstRule t))))
+  each-taken : (i : ℕ) → i < number t 7 → Taken (headBytes t) t (past i (ruleEnd t) (firstRule t))
   each-taken =
       let p = parts t e in
-      times-past (λ s. s .0) (ruleEnd t) (λ at. Stands h (bytesAt t at) × (ruleAt t at ≡ decode h (bytesAt t at))) (rule t)
-      (λ s s′ r. (rule-end t s s′ r .0, taken h full t (drop (firstRule t) t) begins s s′ r)) (number t 7) (firstRule t, []) (p .state) (p .read) .1
+      times-past (λ s. s .0) (ruleEnd t) (Taken (headBytes t) t) (rule t)
+      (λ s s′ r. (rule-end t s s′ r .0, taken (headBytes t) full t (drop (firstRule t) t) begins s s′ r)) (number t 7) (firstRule t, []) (p .state) (p .read) .1
 
-  stand : Each (Stands h) (ruleBytes t)
+  stand : Each (Stands (headBytes t)) (ruleBytes t)
   unfolding ruleBytes
   stand = each-of (several (number t 7) (bytesAt t) (ruleEnd t) (firstRule t)) (λ B m.
       let (i, l, q) = several-mem (bytesAt t) (ruleEnd t) (number t 7) (firstRule t) m in
-      subst (Stands h) (sym q) (each-taken i l .0))
+      subst (Stands (headBytes t)) (sym q) (each-taken i l .0))
 
-  decoded : grammarOf t .rules ≡ map (decode h) (ruleBytes t)
+  decoded : grammarOf t .rules ≡ map (decode (headBytes t)) (ruleBytes t)
   unfolding grammarOf ruleBytes
-  decoded = several-map (ruleAt t) (bytesAt t) (decode h) (ruleEnd t) (number t 7) (firstRule t) (λ i l. each-taken i l .1)
+  decoded = several-map (ruleAt t) (bytesAt t) (decode (headBytes t)) (ruleEnd t) (number t 7) (firstRule t) (λ i l. each-taken i l .1)
 
-  differ : Sorted (λ f g. f ≡ g → ⊥) (functionsOf h (ruleBytes t))
+  differ : Sorted (λ f g. f ≡ g → ⊥) (functionsOf (headBytes t) (ruleBytes t))
   differ = rw (← decoded) (valid-grammar t e .distinct)
 
--- rules are found by their function alone
-found-same : {G H : Grammar} → Valid G → Valid H → ((r : Rule) → Mem r (G .rules) → Mem r (H .rules)) → ((r : Rule) → Mem r (H .rules) → Mem r (G .rules))
-    → (f : ℕ) → named (G .rules) f ≡ named (H .rules) f
-found-same {G} {H} v v′ to back f = go (named (G .rules) f) refl (named (H .rules) f) refl
-  where
-    go : (x : Option Rule) → named (G .rules) f ≡ x → (y : Option Rule) → named (H .rules) f ≡ y → x ≡ y
-    go none p none q = refl
-    go (some r) p y q = let (m, e) = named-is (G .rules) f p in sym (ap (named (H .rules)) (sym e) ∙ found v′ r (to r m)) ∙ q
-    go none p (some r) q = let (m, e) = named-is (H .rules) f q in sym p ∙ ap (named (G .rules)) (sym e) ∙ found v r (back r m)
+-- it is itself in one of the orders
+flatten-bytes : (t : List ℕ) (n at : ℕ) → flatten (several n (bytesAt t) (ruleEnd t) at) ≡ slice at (past n (ruleEnd t) at) t
+unfolding several past flatten
+flatten-bytes t zero at = sym (slice-empty at t)
+flatten-bytes t (suc n) at = rw (flatten-bytes t n (ruleEnd t at)) (slice-join at (ruleEnd t at) (past n (ruleEnd t) (ruleEnd t at)) t (rule-grows′ t at) (past-grows n (ruleEnd t) (rule-grows′ t) (ruleEnd t at)))
+
+pub order-itself : (t : List ℕ) → checkTable t ≡ got tt → Reordered t t
+unfolding ruleBytes
+order-itself t e = record {
+  order = ruleBytes t;
+  same = permuted-itself (ruleBytes t);
+  bytes = begins t e ∙ ap (λ x. headBytes t ++ x) (sym (flatten-bytes t (number t 7) (firstRule t) ∙ rw (fine-table t e .end, take-length t)));
+}
 
 module _ {t t′ : List ℕ} (e : checkTable t ≡ got tt) (o : Reordered t t′) where
   window : Window t t′ 0 0 (firstRule t)
-  window = subst₃ (λ x y n. Window x y 0 0 n) (sym (begins t e)) (sym (o .bytes)) (length-h t e) (front (h t e) (drop (firstRule t) t) (flatten (o .order)))
+  window = subst₃ (λ x y n. Window x y 0 0 n) (sym (begins t e)) (sym (o .bytes)) (length-head t e) (front (headBytes t) (drop (firstRule t) t) (flatten (o .order)))
 
   nine : 9 ≤ firstRule t
   nine = omega (arith, first-is t)
@@ -143,17 +141,17 @@ module _ {t t′ : List ℕ} (e : checkTable t ≡ got tt) (o : Reordered t t′
   start-same = byte-same window (at-start 6) (omega (arith, nine))
 
   -- the rules' bytes in the new order are read one after another
-  all-put : Put (h t e) (full t e) t′ (flatten (o .order)) (o .bytes) (o .order) (h t e) []
+  all-put : Put (headBytes t) (full t e) t′ (flatten (o .order)) (o .bytes) (o .order) (headBytes t) []
   unfolding member
-  all-put = put-all (h t e) (full t e) t′ (flatten (o .order)) (o .bytes) (o .order) (h t e) [] (o .bytes) (permuted-each (o .same) (stand t e))
-      (permuted-sorted (λ f g d q. d (sym q)) (permuted-map _ (permuted-map (decode (h t e)) (o .same))) (differ t e)) (each-of (functionsOf (h t e) (o .order)) (λ f m. refl))
+  all-put = put-all (headBytes t) (full t e) t′ (flatten (o .order)) (o .bytes) (o .order) (headBytes t) [] (o .bytes) (permuted-each (o .same) (stand t e))
+      (permuted-sorted (λ f g d q. d (sym q)) (permuted-map _ (permuted-map (decode (headBytes t)) (o .same))) (differ t e)) (each-of (functionsOf (headBytes t) (o .order)) (λ f m. refl))
 
   many : length (o .order) ≡ number t′ 7
   unfolding ruleBytes
   many = sym (permuted-length (o .same)) ∙ several-length (bytesAt t) (ruleEnd t) (number t 7) (firstRule t) ∙ count-same
 
-  here-too : length (h t e) ≡ firstRule t′
-  here-too = length-h t e ∙ first-same
+  here-too : length (headBytes t) ≡ firstRule t′
+  here-too = length-head t e ∙ first-same
 
   new-parts : Parts t′
   new-parts =
@@ -170,7 +168,7 @@ module _ {t t′ : List ℕ} (e : checkTable t ≡ got tt) (o : Reordered t t′
   pub order-accepted : checkTable t′ ≡ got tt
   order-accepted = whole t′ new-parts
 
-  new-decoded : grammarOf t′ .rules ≡ map (decode (h t e)) (o .order)
+  new-decoded : grammarOf t′ .rules ≡ map (decode (headBytes t)) (o .order)
   unfolding grammarOf
   new-decoded = ap₂ (λ n at. several n (ruleAt t′) (ruleEnd t′) at) (sym many) (sym here-too) ∙ all-put .rules
 
@@ -186,13 +184,10 @@ module _ {t t′ : List ℕ} (e : checkTable t ≡ got tt) (o : Reordered t t′
   start-kept = start-same
 
   pub order-grammar : (grammarOf t .start ≡ grammarOf t′ .start) × (grammarOf t .dims ≡ grammarOf t′ .dims) × Permuted (grammarOf t .rules) (grammarOf t′ .rules)
-  order-grammar = (start-kept, dims-kept, subst₂ Permuted (sym (decoded t e)) (sym new-decoded) (permuted-map (decode (h t e)) (o .same)))
+  order-grammar = (start-kept, dims-kept, subst₂ Permuted (sym (decoded t e)) (sym new-decoded) (permuted-map (decode (headBytes t)) (o .same)))
 
   same-rules : SameRules (grammarOf t) (grammarOf t′)
-  same-rules =
-      let to : (r : Rule) → Mem r (grammarOf t .rules) → Mem r (grammarOf t′ .rules) = λ r. permuted-mem (order-grammar .2) in
-      let back : (r : Rule) → Mem r (grammarOf t′ .rules) → Mem r (grammarOf t .rules) = λ r. permuted-mem (permuted-back (order-grammar .2)) in
-      record { start = start-kept; to = to; back = back; names = fun-ext (found-same (valid-grammar t e) (valid-grammar t′ order-accepted) to back) }
+  same-rules = same-set (valid-grammar t e) (valid-grammar t′ order-accepted) start-kept (λ r. permuted-mem (order-grammar .2)) (λ r. permuted-mem (permuted-back (order-grammar .2)))
 
   same-check : checkTable t ≡ checkTable t′
   same-check = e ∙ sym order-accepted

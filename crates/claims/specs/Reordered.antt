@@ -14,6 +14,10 @@ pub data Permuted {A : Type 0} : List A → List A → Type 0 where
   swap : {a b : A} {l : List A} → Permuted (a ∷ b ∷ l) (b ∷ a ∷ l)
   then : {l m n : List A} → Permuted l m → Permuted m n → Permuted l n
 
+-- a table's header and dimensions
+abbrev pub headBytes : List ℕ → List ℕ
+headBytes t = take (firstRule t) t
+
 -- the bytes of the rule that starts at a place
 abbrev pub bytesAt : List ℕ → ℕ → List ℕ
 bytesAt t at = slice at (ruleEnd t at) t
@@ -26,4 +30,4 @@ ruleBytes t = several (number t 7) (bytesAt t) (ruleEnd t) (firstRule t)
 pub record Reordered (t t′ : List ℕ) : Type 0 where
   pub order : List (List ℕ)
   pub same : Permuted (ruleBytes t) order
-  pub bytes : t′ ≡ take (firstRule t) t ++ flatten order
+  pub bytes : t′ ≡ headBytes t ++ flatten order

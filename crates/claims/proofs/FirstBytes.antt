@@ -22,7 +22,8 @@ use Rattle.meaning.specs.SentenceWriting.{SentenceWritten}
 use Rattle.meaning.proofs.Fields.{both, same, header-there, dims-there}
 use Rattle.meaning.proofs.Ends.{rule-end, first-there}
 use Rattle.meaning.proofs.Places.{row-is, first-is, rows-are, rule-most, table-most}
-use Rattle.claims.proofs.Alike.{Equal, alike-next, alike-test, alike-map, times-alike, times-keeps, alike-same, same-alike, Alike, both-refused, Window, at-start, same-place, unmoved, byte-same, number-same, RowRoom, RuleRoom, rule-alike, header-same, same-top, dims-same}
+use Rattle.claims.proofs.Alike.{Equal, alike-next, alike-test, alike-map, times-alike, times-keeps, alike-same, same-alike, Alike, both-refused}
+use Rattle.claims.proofs.Windows.{Window, at-start, same-place, unmoved, byte-same, number-same, RowRoom, RuleRoom, rule-alike, header-same, same-top, dims-same}
 use Rattle.claims.proofs.Carry.{SameRules, itself, turned, read-carried, tree-carried, sentence-carried}
 
 -- two tables that both have the same first 40,000 bytes

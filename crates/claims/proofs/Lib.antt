@@ -2,6 +2,7 @@
 pub mod Heights
 -- two tables that are checked alike, and what is then allowed for both
 pub mod Alike
+pub mod Windows
 pub mod Carry
 -- the first 40,000 bytes
 pub mod FirstBytes

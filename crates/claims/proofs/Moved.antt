@@ -12,7 +12,8 @@ use Rattle.meaning.specs.Grammar.{word, part}
 use Rattle.meaning.specs.Decode.{past, several, symbolAt, rowAt, rowEnd, rowsOf, ruleAt, ruleEnd}
 use Rattle.meaning.proofs.Functions.{joins}
 use Rattle.meaning.proofs.Places.{past-grows, row-is, rows-are, row-grows, rule-grows}
-use Rattle.claims.proofs.Alike.{alike-got, Window, At, at-more, SameTop, RowRoom, RuleRoom, byte-same, number-same, rule-alike}
+use Rattle.claims.proofs.Alike.{alike-got}
+use Rattle.claims.proofs.Windows.{Window, At, at-more, SameTop, RowRoom, RuleRoom, byte-same, number-same, rule-alike}
 
 -- parts one after another, at two places, while I holds of how many are left and of both places
 module _ {A : Type 0} (f g : ℕ → A) (next next′ : ℕ → ℕ) (I : ℕ → ℕ → ℕ → Type 0) (one : (n a b : ℕ) → I (suc n) a b → (f a ≡ g b) × I n (next a) (next′ b)) where

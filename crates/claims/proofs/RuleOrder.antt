@@ -1,7 +1,7 @@
 -- The order of rules changes nothing: a table with the rules of an accepted table in another order is accepted (`order-accepted`), its
 -- grammar has the same start and dimensions, and the same rules in another order (`order-grammar`), and each of the three calls' definitions
 -- allows the same results for both (`read-order`, `tree-order`, `sentence-order`); so any two results, one for each table, are equal
--- (`same-read-order`, `same-tree-order`, `same-sentence-order`).
+-- (`same-read-order`, `same-tree-order`, `same-sentence-order`). An accepted table is one of its orders (`order-itself`).
 use Prim.Native.Nat.{ℕ, zero, suc, _+_, _≤_, _<_}
 use mathlib.Core.Path.{_≡_, refl, sym, ap, ap₂, _∙_, subst, subst₂, subst₃}
 use mathlib.Core.Bool.{not}
@@ -20,16 +20,16 @@ use Rattle.meaning.specs.TreeWriting.{TreeWritten}
 use Rattle.meaning.specs.SentenceWriting.{SentenceWritten}
 use Rattle.meaning.proofs.Order.{each-of}
 use Rattle.meaning.proofs.Spans.{slice-join}
-use Rattle.meaning.proofs.Fields.{after, both, same, header-there}
+use Rattle.meaning.proofs.Fields.{after, both, header-there}
 use Rattle.meaning.proofs.Ends.{times-past, rule-end, first-there, fine-table}
 use Rattle.meaning.proofs.Places.{past-grows, first-is, rule-grows′}
 use Rattle.meaning.proofs.Decoded.{several-length, several-mem, valid-grammar}
 use Rattle.meaning.proofs.Determined.{Same, same-read, same-tree, same-sentence}
 use Rattle.claims.specs.Reordered.{Permuted, headBytes, bytesAt, ruleBytes, Reordered}
 use Rattle.claims.proofs.Permutation.{permuted-itself, permuted-back, permuted-length, permuted-mem, permuted-each, permuted-sorted, permuted-map}
-use Rattle.claims.proofs.Alike.{Window, at-start, byte-same, number-same, header-same, dims-same}
+use Rattle.claims.proofs.Windows.{Window, at-start, byte-same, number-same, header-same, dims-same}
 use Rattle.claims.proofs.Moved.{several-same}
-use Rattle.claims.proofs.Blocks.{front, Stands, decode, Taken, functionsOf, taken, Put, put-all}
+use Rattle.claims.proofs.Blocks.{front-window, Stands, decode, Taken, functionsOf, rule-taken, Put, rules-put}
 use Rattle.claims.proofs.Carry.{SameRules, same-set, turned, read-carried, tree-carried, sentence-carried}
 
 -- the parts of a check that refuses nothing
@@ -41,9 +41,9 @@ record Parts (t : List ℕ) : Type 0 where
   read : times (number t 7) (rule t) (firstRule t, []) ≡ got state
   end : state .0 ≡ length t
 
-parts : (t : List ℕ) → checkTable t ≡ got tt → Parts t
+accepted-parts : (t : List ℕ) → checkTable t ≡ got tt → Parts t
 unfolding checkTable rules
-parts t e =
+accepted-parts t e =
     let v = fine-table t e in
     let h = both (header t) _ tt e in
     let n = header-there t (h .0) (h .1) in
@@ -63,9 +63,9 @@ parts t e =
       end = last ∙ v .end;
     }
 
-whole : (t : List ℕ) → Parts t → checkTable t ≡ got tt
+parts-accepted : (t : List ℕ) → Parts t → checkTable t ≡ got tt
 unfolding checkTable rules
-whole t p = rw (p .head, p .dims, p .start, p .read, p .end, le-ltb (length t) (length t) (omega arith))
+parts-accepted t p = rw (p .head, p .dims, p .start, p .read, p .end, le-ltb (length t) (length t) (omega arith))
 
 -- parts one after another: what holds of each holds of all
 several-map : {A B : Type 0} (g : ℕ → B) (f : ℕ → A) (k : A → B) (next : ℕ → ℕ) (n at : ℕ) → ((i : ℕ) → i < n → g (past i next at) ≡ k (f (past i next at)))
@@ -82,21 +82,21 @@ module _ (t : List ℕ) (e : checkTable t ≡ got tt) where
   length-head : length (headBytes t) ≡ firstRule t
   length-head = length-take-le (firstRule t) t first-fits
 
-  full : 9 + byte (headBytes t) 5 ≡ length (headBytes t)
-  full = omega (arith, length-head, first-is t, getD-take (firstRule t) t 5 0 (omega (arith, first-is t)))
+  head-full : 9 + byte (headBytes t) 5 ≡ length (headBytes t)
+  head-full = omega (arith, length-head, first-is t, getD-take (firstRule t) t 5 0 (omega (arith, first-is t)))
 
   begins : t ≡ headBytes t ++ drop (firstRule t) t
   begins = sym (take-append-drop (firstRule t) t)
 
   each-taken : (i : ℕ) → i < number t 7 → Taken (headBytes t) t (past i (ruleEnd t) (firstRule t))
   each-taken =
-      let p = parts t e in
+      let p = accepted-parts t e in
       times-past (λ s. s .0) (ruleEnd t) (Taken (headBytes t) t) (rule t)
-      (λ s s′ r. (rule-end t s s′ r .0, taken (headBytes t) full t (drop (firstRule t) t) begins s s′ r)) (number t 7) (firstRule t, []) (p .state) (p .read) .1
+      (λ s s′ r. (rule-end t s s′ r .0, rule-taken (headBytes t) head-full t (drop (firstRule t) t) begins s s′ r)) (number t 7) (firstRule t, []) (p .state) (p .read) .1
 
-  stand : Each (Stands (headBytes t)) (ruleBytes t)
+  bytes-stand : Each (Stands (headBytes t)) (ruleBytes t)
   unfolding ruleBytes
-  stand = each-of (several (number t 7) (bytesAt t) (ruleEnd t) (firstRule t)) (λ B m.
+  bytes-stand = each-of (several (number t 7) (bytesAt t) (ruleEnd t) (firstRule t)) (λ B m.
       let (i, l, q) = several-mem (bytesAt t) (ruleEnd t) (number t 7) (firstRule t) m in
       subst (Stands (headBytes t)) (sym q) (each-taken i l .0))
 
@@ -107,7 +107,7 @@ module _ (t : List ℕ) (e : checkTable t ≡ got tt) where
   differ : Sorted (λ f g. f ≡ g → ⊥) (functionsOf (headBytes t) (ruleBytes t))
   differ = rw (← decoded) (valid-grammar t e .distinct)
 
--- it is itself in one of the orders
+-- it is one of its orders: the rules' bytes, one after another, are what stands after the dimensions
 flatten-bytes : (t : List ℕ) (n at : ℕ) → flatten (several n (bytesAt t) (ruleEnd t) at) ≡ slice at (past n (ruleEnd t) at) t
 unfolding several past flatten
 flatten-bytes t zero at = sym (slice-empty at t)
@@ -121,9 +121,10 @@ order-itself t e = record {
   bytes = begins t e ∙ ap (λ x. headBytes t ++ x) (sym (flatten-bytes t (number t 7) (firstRule t) ∙ rw (fine-table t e .end, take-length t)));
 }
 
+-- an accepted table and another with its rules in another order
 module _ {t t′ : List ℕ} (e : checkTable t ≡ got tt) (o : Reordered t t′) where
   window : Window t t′ 0 0 (firstRule t)
-  window = subst₃ (λ x y n. Window x y 0 0 n) (sym (begins t e)) (sym (o .bytes)) (length-head t e) (front (headBytes t) (drop (firstRule t) t) (flatten (o .order)))
+  window = subst₃ (λ x y n. Window x y 0 0 n) (sym (begins t e)) (sym (o .bytes)) (length-head t e) (front-window (headBytes t) (drop (firstRule t) t) (flatten (o .order)))
 
   nine : 9 ≤ firstRule t
   nine = omega (arith, first-is t)
@@ -141,36 +142,36 @@ module _ {t t′ : List ℕ} (e : checkTable t ≡ got tt) (o : Reordered t t′
   start-same = byte-same window (at-start 6) (omega (arith, nine))
 
   -- the rules' bytes in the new order are read one after another
-  all-put : Put (headBytes t) (full t e) t′ (flatten (o .order)) (o .bytes) (o .order) (headBytes t) []
+  order-put : Put (headBytes t) (head-full t e) t′ (flatten (o .order)) (o .bytes) (o .order) (headBytes t) []
   unfolding member
-  all-put = put-all (headBytes t) (full t e) t′ (flatten (o .order)) (o .bytes) (o .order) (headBytes t) [] (o .bytes) (permuted-each (o .same) (stand t e))
+  order-put = rules-put (headBytes t) (head-full t e) t′ (flatten (o .order)) (o .bytes) (o .order) (headBytes t) [] (o .bytes) (permuted-each (o .same) (bytes-stand t e))
       (permuted-sorted (λ f g d q. d (sym q)) (permuted-map _ (permuted-map (decode (headBytes t)) (o .same))) (differ t e)) (each-of (functionsOf (headBytes t) (o .order)) (λ f m. refl))
 
-  many : length (o .order) ≡ number t′ 7
+  order-length : length (o .order) ≡ number t′ 7
   unfolding ruleBytes
-  many = sym (permuted-length (o .same)) ∙ several-length (bytesAt t) (ruleEnd t) (number t 7) (firstRule t) ∙ count-same
+  order-length = sym (permuted-length (o .same)) ∙ several-length (bytesAt t) (ruleEnd t) (number t 7) (firstRule t) ∙ count-same
 
-  here-too : length (headBytes t) ≡ firstRule t′
-  here-too = length-head t e ∙ first-same
+  length-head-new : length (headBytes t) ≡ firstRule t′
+  length-head-new = length-head t e ∙ first-same
 
   new-parts : Parts t′
   new-parts =
-      let p = parts t e in
+      let p = accepted-parts t e in
       record {
         head = sym (header-same window nine) ∙ p .head;
         dims = sym (dims-same window nine dims-fit) ∙ p .dims ∙ ap got first-same;
         start = ap (dimensionOf t′) (sym start-same) ∙ sym (byte-same window (at-start (8 + byte t 6)) (omega (arith, fine-table t e .start, first-is t))) ∙ p .start;
-        state = all-put .state;
-        read = ap₂ (λ n at. times n (rule t′) (at, [])) (sym many) (sym here-too) ∙ all-put .read;
-        end = all-put .end;
+        state = order-put .state;
+        read = ap₂ (λ n at. times n (rule t′) (at, [])) (sym order-length) (sym length-head-new) ∙ order-put .read;
+        end = order-put .end;
       }
 
   pub order-accepted : checkTable t′ ≡ got tt
-  order-accepted = whole t′ new-parts
+  order-accepted = parts-accepted t′ new-parts
 
   new-decoded : grammarOf t′ .rules ≡ map (decode (headBytes t)) (o .order)
   unfolding grammarOf
-  new-decoded = ap₂ (λ n at. several n (ruleAt t′) (ruleEnd t′) at) (sym many) (sym here-too) ∙ all-put .rules
+  new-decoded = ap₂ (λ n at. several n (ruleAt t′) (ruleEnd t′) at) (sym order-length) (sym length-head-new) ∙ order-put .rules
 
   dims-kept : grammarOf t .dims ≡ grammarOf t′ .dims
   unfolding grammarOf

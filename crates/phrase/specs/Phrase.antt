@@ -1,15 +1,16 @@
 -- What the structs and enums of the code mean, and what the functions over them promise.
 use Prim.Native.Nat.{ℕ, _+_, _*_, _≤_, _<_}
 use mathlib.Core.Path.{_≡_}
-use mathlib.Core.Bool.{Bool, true, false}
+use mathlib.Core.Bool.{Bool, true, false, cond}
 use mathlib.Core.Option.{Option, none as apart, some as just}
 use mathlib.Core.List.{List, [], _∷_}
+use lib.Dec.{ltb}
 use lib.ListN.{length, getD, take}
 use Rattle.meaning.specs.Range.{Range, Item}
 use Rattle.meaning.specs.Grammar.{Symbol}
 use Rattle.meaning.specs.Giving.{Run, Stands, held, Gives}
-use Rattle.meaning.specs.Table.{got, checkTable, number}
-use Rattle.meaning.specs.Decode.{past, rowAt, rowEnd, ruleAt, ruleEnd, firstRule, grammarOf}
+use Rattle.meaning.specs.Table.{got, checkTable, number, dimensionOf, categoryOf}
+use Rattle.meaning.specs.Decode.{past, rowAt, rowEnd, rowsOf, ruleAt, ruleEnd, firstRule, grammarOf}
 use Rattle.phrase.specs.Row.{Starts}
 use Rattle.phrase.specs.declared.ranges.Range.{Range as Coded}
 use Rattle.phrase.specs.declared.ranges.Join.{Join}
@@ -67,9 +68,18 @@ pub record RuleOf (t : List ℕ) (place : ℕ) : Type 0 where
   pub below : index < number t 7
   pub there : place ≡ past index (ruleEnd t) (firstRule t)
 
--- row i of the rule at a place
+-- row i of the rule at a place, from 0: its symbols, and where its bytes stand
 abbrev pub rowOf : List ℕ → ℕ → ℕ → List Symbol
 rowOf t rule i = getD (ruleAt t rule .rows) i []
+
+unfoldable pub rowThere : List ℕ → ℕ → ℕ → Row
+rowThere t rule i = cond (ltb i (dimensionOf t (categoryOf t rule))) (At (past i (rowEnd t) (rowsOf t rule))) Past
+
+-- r is that row; the rest follows where the rule is one of an accepted table
+pub record RowIs (t : List ℕ) (rule i : ℕ) (r : Row) : Type 0 where
+  pub there : r ≡ rowThere t rule i
+  pub symbols : symbolsOf t r ≡ rowOf t rule i
+  pub ends : EndsIn t r
 
 -- a test's answer is whether P holds
 pub data Decides (P : Type 0) : Bool → Type 0 where

@@ -6,7 +6,7 @@ ghost use Rattle.meaning.specs.Range as range;
 ghost use Rattle.meaning.specs.Table.{number};
 ghost use Rattle.meaning.specs.Decode.{rowEnd, rowAt, symbolAt};
 ghost use Rattle.phrase.specs.Row as row;
-ghost use Rattle.phrase.specs.Phrase.{rangeOf, joinOf, startsOf, heldOf, symbolsOf, rowOf, EndsIn, RuleOf, Decides, Has, Next, StartsAt, startOf};
+ghost use Rattle.phrase.specs.Phrase.{rangeOf, joinOf, startsOf, heldOf, symbolsOf, EndsIn, RuleOf, RowIs, Decides, Has, Next, StartsAt, startOf};
 use crate::items::Daughters;
 use crate::items::held;
 use crate::ranges::Join;
@@ -34,7 +34,7 @@ pub struct Starts {
 // Row i of the rule at a place, from 0.
 pub fn row_of(table: &[u8], rule: usize, i: usize) -> Row
     requires { ⌜ RuleOf (now table) rule ⌝ }
-    ensures { λ r. ⌜ (symbolsOf (now (table .entry)) r ≡ rowOf (now (table .entry)) rule i) × EndsIn (now (table .entry)) r ⌝ }
+    ensures { λ r. ⌜ RowIs (now (table .entry)) rule i r ⌝ }
 {
     let third = rule + 2;
     let fourth = rule + 3;

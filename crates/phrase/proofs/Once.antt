@@ -1,13 +1,13 @@
 -- Any two results that a contract of this crate allows are equal: its views lose nothing, and its relations have one answer.
 use Prim.Native.Nat.{ℕ, zero, suc, _≤_, _<_}
 use mathlib.Core.Path.{_≡_, refl, sym, ap, _∙_}
-use mathlib.Core.Bool.{Bool, true, false}
-use mathlib.Core.Option.{Option, none as apart, some as just}
+use mathlib.Core.Bool.{Bool}
+use mathlib.Core.Option.{Option, some as just}
 use mathlib.Core.List.{List}
 use native.Mathlib.Omega.{arith}
 use lib.ListN.{length, getD}
 use lib.Seq.{ext-getD}
-use Rattle.meaning.specs.Range.{Range, Item}
+use Rattle.meaning.specs.Range.{Item}
 use Rattle.meaning.specs.Grammar.{Symbol}
 use Rattle.phrase.specs.declared.ranges.Range.{Range as Coded}
 use Rattle.phrase.specs.declared.ranges.Join.{Join}

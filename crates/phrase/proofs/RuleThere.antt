@@ -4,7 +4,7 @@ use mathlib.Core.Path.{_≡_, refl, sym, ap, _∙_, subst}
 use mathlib.Core.List.{List, [], List·Memᴰ as Mem}
 use native.Mathlib.Omega.{arith}
 use borrow.Author.Tests.{lt-ltb, le-ltb}
-use lib.ListN.{length, getD, take, length-take, length-map}
+use lib.ListN.{length, getD, length-take, length-map}
 use lib.Seq.{ext-getD}
 use Rattle.meaning.specs.Range.{Item, at}
 use Rattle.meaning.specs.Giving.{done, categories, Gives}

@@ -69,10 +69,10 @@ fn word(words: &[u16], w: u16, at: usize) -> Join
     if words.len() <= at {
         return Join::Apart;
     }
+    let next = at + 1;
     if words[at] != w {
         return Join::Apart;
     }
-    let next = at + 1;
     Join::Joined(Range { from: at, to: next })
 }
 

@@ -44,7 +44,10 @@ size-requires-2 c κs = search needs
 returns : tie.Need-returns Inv-loop μ-loop
 returns c =
     let b = c .before .before .before .before .before .before in
-    let h = simp (c .before .size2 .ensures, c .before .before .byte-at2 .ensures .0, c .before .before .before .size .ensures, c .before .before .before .before .byte-at .ensures .0) at (c .if1 .taken) in
+    let byte-at = c .before .before .before .before .byte-at in
+    let size = c .before .before .before .size in
+    let byte-at2 = c .before .before .byte-at2 in
+    let h = simp (c .before .size2 .ensures, byte-at2 .ensures .0, size .ensures, byte-at .ensures .0) at (c .if1 .taken) in
     row-past (b .args .table .now) (b .args .rule) (b .pre) _ h
 
 byte-at-requires-3 : tie.Need-byte-at-requires-3 Inv-loop μ-loop
@@ -54,12 +57,19 @@ size-requires-3 : tie.Need-size-requires-3 Inv-loop μ-loop
 size-requires-3 c κs = search needs
 
 add-at : tie.Need-add-at Inv-loop μ-loop
-add-at c = omega (arith, head-in (c .before .before .before .before .before .before .before .before .args .table .now) (c .before .before .before .before .before .before .before .before .args .rule) (c .before .before .before .before .before .before .before .before .pre), c .size3 .ensures, c .before .byte-at3 .ensures .0)
+add-at c =
+    let b = c .before .before .before .before .before .before .before .before in
+    omega (arith, head-in (b .args .table .now) (b .args .rule) (b .pre), c .size3 .ensures, c .before .byte-at3 .ensures .0)
 
 loop-holds : tie.Need-loop-holds Inv-loop μ-loop
 loop-holds c =
     let a = c .before .before .before .before .before .before .before .before .args in
-    let h = simp (c .before .before .before .size2 .ensures, c .before .before .before .before .byte-at2 .ensures .0, c .before .before .before .before .before .size .ensures, c .before .before .before .before .before .before .byte-at .ensures .0) at (c .before .before .if1 .left) in
+    let byte-at = c .before .before .before .before .before .before .byte-at in
+    let size = c .before .before .before .before .before .size in
+    let byte-at2 = c .before .before .before .before .byte-at2 in
+    let size2 = c .before .before .before .size2 in
+    let if1 = c .before .before .if1 in
+    let h = simp (size2 .ensures, byte-at2 .ensures .0, size .ensures, byte-at .ensures .0) at (if1 .left) in
     (h, simp (c .size3 .ensures, c .before .byte-at3 .ensures .0, rows-are (a .table .now) (a .rule)))
 
 row-end-requires : tie.Need-row-end-requires Inv-loop μ-loop

@@ -25,6 +25,12 @@ use Rattle.phrase.proofs.Fit.{has-in}
 use Rattle.phrase.proofs.RuleThere.{give-item}
 use Rattle.phrase.proofs.Product.{no-next, is-next, Keyed}
 
+-- what three rows can have lies within the sentence
+pub three-in :
+    (ws : List ℕ) (d : Daughters) (one two three : List Symbol) (p : Three) → HasThree ws d one two three p
+    → ((p .0 .from ≤ p .0 .to) × (p .0 .to ≤ length ws)) × ((p .1 .0 .from ≤ p .1 .0 .to) × (p .1 .0 .to ≤ length ws)) × ((p .1 .1 .from ≤ p .1 .1 .to) × (p .1 .1 .to ≤ length ws))
+three-in ws d one two three p (a, (b, c)) = (has-in ws d a, has-in ws d b, has-in ws d c)
+
 -- two rows, and three, by their starts
 module _ (ws : List ℕ) (d : Daughters) (short : length ws ≤ 64) where
   below : (ss : List Symbol) (r : Range) → Has ws d ss r → startOf r < 65
@@ -115,31 +121,31 @@ module _ (t : List ℕ) (rule : ℕ) (o : RuleOf t rule) (d : Daughters) (ws : L
   abbrev pub Offered : Three → Type 0
   Offered p = HasThree ws d (rowOf t rule 0) (rowOf t rule 1) (rowOf t rule 2) p
 
-  abbrev pub Given : Item → Type 0
-  Given x = Gives (grammarOf t) ws (ruleAt t rule) (itemsOf d) x
+  abbrev pub IsGiven : Item → Type 0
+  IsGiven x = Gives (grammarOf t) ws (ruleAt t rule) (itemsOf d) x
 
   abbrev pub item : Three → Item
   item p = itemFrom (categoryOf t rule) p
 
-  pub offered-given : categories (itemsOf d) ≡ ruleAt t rule .daughters → (p : Three) → Offered p → Given (item p)
+  pub offered-given : categories (itemsOf d) ≡ ruleAt t rule .daughters → (p : Three) → Offered p → IsGiven (item p)
   offered-given k p (a, (b, c)) = give-item t rule o d ws (item p) refl k a b c
 
-  pub given-offered : (x : Item) → Given x → Offered (ranges x) × (x ≡ item (ranges x))
+  pub given-offered : (x : Item) → IsGiven x → Offered (ranges x) × (x ≡ item (ranges x))
   unfolding ruleAt
   given-offered x g = ((g .rows 0, (g .rows 1, g .rows 2)), λ i. record { category = g .kind i; one = x .one; two = x .two; three = x .three })
 
   -- THE ENUMERATION: the numbers asked one after another from 0 list what the rule gives, each item once
   module _ (short : length ws ≤ 64) {ps : List Three} (asked : Asked threeStarts Offered 0 ps) where
-    pub lists-all : (x : Item) → Given x → Mem x (map item ps)
+    pub lists-all : (x : Item) → IsGiven x → Mem x (map item ps)
     lists-all x g =
         let (h, e) = given-offered x g in
         let m = all-asked (three-one ws d short (rowOf t rule 0) (rowOf t rule 1) (rowOf t rule 2)) asked (ranges x) h (omega arith) in
         subst (λ (y : Item). Mem y (map item ps)) (sym e) (mem-map item m)
 
-    pub lists-only : categories (itemsOf d) ≡ ruleAt t rule .daughters → (x : Item) → Mem x (map item ps) → Given x
+    pub lists-only : categories (itemsOf d) ≡ ruleAt t rule .daughters → (x : Item) → Mem x (map item ps) → IsGiven x
     lists-only k x m =
         let (p, n, e) = map-mem item ps m in
-        subst Given (sym e) (offered-given k p (asked-only asked n))
+        subst IsGiven (sym e) (offered-given k p (asked-only asked n))
 
     pub lists-once : Sorted (λ x y. x ≡ y → ⊥) (map item ps)
     lists-once = go (asked-sorted asked)

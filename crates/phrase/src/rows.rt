@@ -26,9 +26,9 @@ pub enum Row {
 }
 
 // Where a row can start: from first up to but not including end.
-pub struct Starts {
-    pub first: usize,
-    pub end: usize,
+struct Starts {
+    first: usize,
+    end: usize,
 }
 
 // Row i of the rule at a place, from 0.
@@ -120,7 +120,7 @@ fn site(table: &[u8], at: usize, words: &[u16], d: Daughters, start: usize, to: 
 }
 
 // What the row makes, where its first word stands at the start.
-pub fn row_from(table: &[u8], place: usize, words: &[u16], d: Daughters, start: usize) -> Join
+fn row_from(table: &[u8], place: usize, words: &[u16], d: Daughters, start: usize) -> Join
     requires { ⌜ rowEnd (now table) place ≤ length (now table) ⌝ }
     ensures { λ r. ⌜ joinOf r ≡ row.eval (now (words .entry)) (heldOf d) start range.none (rowAt (now (table .entry)) place) ⌝ }
 {
@@ -142,7 +142,7 @@ pub fn row_from(table: &[u8], place: usize, words: &[u16], d: Daughters, start: 
 }
 
 // Where the row can start: where its first part that is not empty stands; anywhere if a word comes first; at 0 if it is empty.
-pub fn row_starts(table: &[u8], place: usize, words: &[u16], d: Daughters) -> Starts
+fn row_starts(table: &[u8], place: usize, words: &[u16], d: Daughters) -> Starts
     requires { ⌜ rowEnd (now table) place ≤ length (now table) ⌝ }
     ensures { λ r. ⌜ startsOf r ≡ row.starts (now (words .entry)) (heldOf d) (rowAt (now (table .entry)) place) ⌝ }
 {
@@ -171,7 +171,7 @@ pub fn row_starts(table: &[u8], place: usize, words: &[u16], d: Daughters) -> St
 }
 
 // Whether the row can have this range with these daughters.
-pub fn row_fits(table: &[u8], row: Row, words: &[u16], d: Daughters, r: Range) -> bool
+pub(crate) fn row_fits(table: &[u8], row: Row, words: &[u16], d: Daughters, r: Range) -> bool
     requires { ⌜ EndsIn (now table) row ⌝ }
     ensures { λ b. ⌜ Decides (Has (now (words .entry)) d (symbolsOf (now (table .entry)) row) (rangeOf r)) b ⌝ }
 {
@@ -209,7 +209,7 @@ fn later(a: usize, b: usize) -> usize
 }
 
 // The first range that the row can have from a place on.
-pub fn row_next(table: &[u8], row: Row, words: &[u16], d: Daughters, from: usize) -> Join
+pub(crate) fn row_next(table: &[u8], row: Row, words: &[u16], d: Daughters, from: usize) -> Join
     requires { ⌜ EndsIn (now table) row ⌝ }
     ensures { λ r. ⌜ Next startOf (Has (now (words .entry)) d (symbolsOf (now (table .entry)) row)) from (joinOf r) ⌝ }
 {

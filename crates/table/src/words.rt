@@ -16,10 +16,11 @@ fn check_each(words: &[u8], count: usize) -> Verdict
     let mut i = 0;
     while i < count {
         let at = 2 * i;
+        let next = i + 1;
         if number_at(words, at) == 0 {
             return Verdict::Invalid(Refusal::ZeroWord(i));
         }
-        i += 1;
+        i = next;
     }
     Verdict::Valid
 }

@@ -25,6 +25,9 @@ loop-holds c =
 mul-at : tie.Need-mul-at Inv-loop μ-loop
 mul-at c = search needs
 
+add-next : tie.Need-add-next Inv-loop μ-loop
+add-next c = search needs
+
 number-at-requires : tie.Need-number-at-requires Inv-loop μ-loop
 number-at-requires c κs = search needs
 
@@ -32,9 +35,6 @@ returns : tie.Need-returns Inv-loop μ-loop
 returns c =
     let l = c .before .before .before .loop in
     sym (l .inv .0 ∙ turn-out _ _ _ _ (omega arith) (word-out _ (l .i) _ (c .before .number-at .ensures) (c .if1 .taken)))
-
-add-i : tie.Need-add-i Inv-loop μ-loop
-add-i c = search needs
 
 loop-less : tie.Need-loop-less Inv-loop μ-loop
 loop-less c = omega arith
@@ -61,9 +61,9 @@ check-each-spec =
     μ-loop
     loop-holds
     mul-at
+    add-next
     number-at-requires
     returns
-    add-i
     loop-less
     loop-again
     returns-2)

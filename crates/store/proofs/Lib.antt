@@ -1,0 +1,4 @@
+pub mod Laws
+pub mod Sets
+pub mod Merging
+pub mod Packing

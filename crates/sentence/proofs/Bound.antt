@@ -8,7 +8,8 @@ use native.Mathlib.Decide.{decLt}
 use borrow.Author.Tests.{eqb-true}
 use lib.Dec.{eqb}
 use lib.ListN.{length, getD, length-append, List·getD-eq-default}
-use Rattle.meaning.specs.Grammar.{Symbol, word, part, Rule, Grammar, Tree, node, Trees, bare, and, Of, of, OfAll, of-none, of-more, said, row, spell, spells, functions, preorder, dimension}
+use Rattle.meaning.specs.Grammar.{Symbol, word, part, Rule, Grammar, dimension, said, row, functions, preorder}
+use Rattle.meaning.specs.Grammar.{Tree, node, Trees, bare, and, Of, of, OfAll, of-none, of-more, spell, spells}
 use Rattle.meaning.specs.Valid.{Valid}
 
 module _ (w : ℕ → ℕ → ℕ) where
@@ -77,7 +78,9 @@ pub record Once (rs : List (List Symbol)) : Type 0 where
 next-row : {rs : List (List Symbol)} → Once ([] ∷ rs) → Once rs
 next-row o = record { inside = λ i j e. o .inside (suc i) j e; once = λ i j i′ j′ e f. let p = o .once (suc i) j (suc i′) j′ e f in (omega arith, p .1) }
 
-shift : (s : Symbol) (ss : List Symbol) (rs : List (List Symbol)) (i j : ℕ) {k c : ℕ} → at (ss ∷ rs) i j ≡ part k c → (j′ : ℕ) × (at ((s ∷ ss) ∷ rs) i j′ ≡ part k c) × (i ≡ 0 → j′ ≡ suc j) × (1 ≤ i → j′ ≡ j)
+shift :
+    (s : Symbol) (ss : List Symbol) (rs : List (List Symbol)) (i j : ℕ) {k c : ℕ} → at (ss ∷ rs) i j ≡ part k c
+    → (j′ : ℕ) × (at ((s ∷ ss) ∷ rs) i j′ ≡ part k c) × (i ≡ 0 → j′ ≡ suc j) × (1 ≤ i → j′ ≡ j)
 shift s ss rs zero j e = (suc j, e, λ _. refl, λ h. absurd (omega arith))
 shift s ss rs (suc i) j e = (j, e, λ h. absurd (omega arith), λ _. refl)
 
@@ -159,13 +162,19 @@ module _ (G : Grammar) (v : Valid G) (brief : (r : Rule) → Mem r (G .rules) �
     where
       go : Dec (k < length (r .daughters)) → k < length (r .daughters)
       go (yes l) = l
-      go (no l) = let m : length (r .daughters) ≤ k = omega arith in let z : c < dimension G 0 = rw (List·getD-eq-default (r .daughters) 0 m) at h in absurd (omega arith)
+      go (no l) =
+          let m : length (r .daughters) ≤ k = omega arith in
+          let z : c < dimension G 0 = rw (List·getD-eq-default (r .daughters) 0 m) at h in
+          absurd (omega arith)
 
   once-of : (r : Rule) → Mem r (G .rules) → Once (r .rows)
   once-of r m =
       let l = v .linear m in
       record {
-        inside = λ i j {k} {c} e. (let h = l .inside i j e in let s = v .small (getD (r .daughters) k 0) in let q = low r k c h in let b = v .ranks m in (omega arith, omega arith));
+        inside = λ i j {k} {c} e. (
+            let h = l .inside i j e in
+            let q = low r k c h in
+            (omega (arith, v .ranks m), omega (arith, v .small (getD (r .daughters) k 0))));
         once = λ i j i′ j′ e f. l .once i j i′ j′ e f;
       }
 

@@ -4,3 +4,4 @@ pub mod Turns
 pub mod Spelling
 pub mod Bound
 pub mod Told
+pub mod Theorems

@@ -47,7 +47,9 @@ unfolding grammarOf
 place-named t f = seek-named (number t 7) t f (firstRule t) (omega (arith, first-is t))
 
 -- a place that is found is that of a rule
-found-at : (b : Bool) (n : ℕ) (t : List ℕ) (at s : ℕ) → (1 ≤ s → (i : ℕ) × (i < n) × (s ≡ past i (ruleEnd t) (ruleEnd t at))) → 1 ≤ cond b at s → (i : ℕ) × (i < suc n) × (cond b at s ≡ past i (ruleEnd t) at)
+found-at :
+    (b : Bool) (n : ℕ) (t : List ℕ) (at s : ℕ) → (1 ≤ s → (i : ℕ) × (i < n) × (s ≡ past i (ruleEnd t) (ruleEnd t at))) → 1 ≤ cond b at s
+    → (i : ℕ) × (i < suc n) × (cond b at s ≡ past i (ruleEnd t) at)
 unfolding past
 found-at true n t at s rec h = (0, omega arith, refl)
 found-at false n t at s rec h = let (i, l, e) = rec h in (suc i, omega arith, e)
@@ -68,7 +70,11 @@ module _ (t : List ℕ) (v : FineTable t) where
 
   -- what is known of the nodes that are noted of a list
   pub within-of : (fs : List ℕ) → length fs ≤ 255 → Within t (map (placeFor t) fs)
-  within-of fs h = record { within = λ i. go i (decLt 0 (getD (map (placeFor t) fs) i 0)); fine = fine-node fs; few = rw (length-map fs (placeFor t)) h }
+  within-of fs h = record {
+    within = λ i. go i (decLt 0 (getD (map (placeFor t) fs) i 0));
+    fine = fine-node fs;
+    few = rw (length-map fs (placeFor t)) h;
+  }
     where
       go : (i : ℕ) → Dec (0 < getD (map (placeFor t) fs) i 0) → getD (map (placeFor t) fs) i 0 ≤ length t
       go i (yes l) = let f = fine-node fs i (omega arith) in omega (arith, f .within)
@@ -94,7 +100,9 @@ map-snoc : (g : ℕ → ℕ) (xs : List ℕ) (x : ℕ) → map g (xs ++ (x ∷ [
 map-snoc g [] x = refl
 map-snoc g (y ∷ xs) x = ap (λ (l : List ℕ). g y ∷ l) (map-snoc g xs x)
 
-pub note-turn : (g : ℕ → ℕ) (ns fs : List ℕ) (i x : ℕ) → i < length fs → length ns ≡ length fs → x ≡ g (getD fs i 0) → take i ns ≡ map g (take i fs) → take (i + 1) (set ns i x) ≡ map g (take (i + 1) fs)
+pub note-turn :
+    (g : ℕ → ℕ) (ns fs : List ℕ) (i x : ℕ) → i < length fs → length ns ≡ length fs → x ≡ g (getD fs i 0) → take i ns ≡ map g (take i fs)
+    → take (i + 1) (set ns i x) ≡ map g (take (i + 1) fs)
 note-turn g ns fs i x h l q e =
     let m : i < length ns = omega arith in
     rw (add-one, take-suc-set ns i x m, take-suc fs i 0 h, map-snoc, e, q)
@@ -116,7 +124,9 @@ module _ (t : List ℕ) where
   unfolding taken
   taken-end ns at n h = rw (drop-of-length-le ns {i = at} h)
 
-  pub taken-turn : (ns : List ℕ) (at n : ℕ) → at < length ns → 0 < n → taken t (drop at ns) n ≡ 1 + taken t (drop (at + 1) ns) (n - 1 + rankOf t (getD ns at 0))
+  pub taken-turn :
+      (ns : List ℕ) (at n : ℕ) → at < length ns → 0 < n
+      → taken t (drop at ns) n ≡ 1 + taken t (drop (at + 1) ns) (n - 1 + rankOf t (getD ns at 0))
   unfolding taken
   taken-turn ns at zero h l = absurd (omega arith)
   taken-turn ns at (suc n) h l =

@@ -27,7 +27,8 @@ module _ (t : List ℕ) (say : ℕ → ℕ → List ℕ) (ps : List (List (List 
   Agrees q = 1 ≤ byte t q → say (byte t q - 1) (number t (q + 1) - 1) ≡ getD (getD ps (byte t q - 1) []) (number t (q + 1) - 1) []
 
   one-symbol : (b : Bool) (q : ℕ) → eqb (byte t q) 0 ≡ b → Agrees q
-      → cond b (number t (q + 1) ∷ []) (say (byte t q - 1) (number t (q + 1) - 1)) ≡ said ps (cond b (word (number t (q + 1))) (part (byte t q - 1) (number t (q + 1) - 1)))
+      → cond b (number t (q + 1) ∷ []) (say (byte t q - 1) (number t (q + 1) - 1))
+      ≡ said ps (cond b (word (number t (q + 1))) (part (byte t q - 1) (number t (q + 1) - 1)))
   unfolding said
   one-symbol true q e a = refl
   one-symbol false q e a = let n = eqb-false (byte t q) 0 e in a (omega arith)
@@ -65,7 +66,9 @@ module _ (t ns : List ℕ) where
   taken-more p l n e = rw (rank-is p e)
 
   -- trees are passed
-  past-trees : {ts : Trees} {As fs : List ℕ} (rest : List ℕ) (n : ℕ) → Grown (ruleOf t) ts As fs → taken t (fs ++ rest) (length As + n) ≡ length fs + taken t rest n
+  past-trees :
+      {ts : Trees} {As fs : List ℕ} (rest : List ℕ) (n : ℕ) → Grown (ruleOf t) ts As fs
+      → taken t (fs ++ rest) (length As + n) ≡ length fs + taken t rest n
   past-trees rest n grown-none = let e : 0 + n ≡ n = omega arith in ap (taken t rest) e ∙ omega arith
   past-trees rest n (grown-more {r} {ts} {us} {A} {f} {As} {fs} {gs} e c g h) =
       let a = past-trees (gs ++ rest) (length As + n) g in
@@ -76,9 +79,14 @@ module _ (t ns : List ℕ) where
 
   -- daughter k's tree among trees that stand from a place on
   abbrev Kth : Trees → List ℕ → List ℕ → ℕ → ℕ → Type 0
-  Kth ts As fs b k = (r : Rule) × (us : Trees) × (gs : List ℕ) × Stands (b + taken t (drop b ns) k) (getD As k 0) r us gs × (getD (spells ts) k [] ≡ spell (node r us)) × (length gs < length fs)
+  Kth ts As fs b k =
+      (r : Rule) × (us : Trees) × (gs : List ℕ) × Stands (b + taken t (drop b ns) k) (getD As k 0) r us gs
+      × (getD (spells ts) k [] ≡ spell (node r us))
+      × (length gs < length fs)
 
-  kth : {ts : Trees} {As fs : List ℕ} (b k : ℕ) (rest : List ℕ) → Grown (ruleOf t) ts As fs → drop b ns ≡ fs ++ rest → k < length As → Kth ts As fs b k
+  kth :
+      {ts : Trees} {As fs : List ℕ} (b k : ℕ) (rest : List ℕ) → Grown (ruleOf t) ts As fs → drop b ns ≡ fs ++ rest → k < length As
+      → Kth ts As fs b k
   unfolding spell
   kth b k rest grown-none q h = absurd (omega arith)
   kth b zero rest (grown-more {r} {ts} {us} {A} {f} {As} {fs} {gs} e c g h) q l =
@@ -89,11 +97,12 @@ module _ (t ns : List ℕ) where
   kth b (suc k) rest (grown-more {r} {ts} {us} {A} {f} {As} {fs} {gs} e c g h) q l =
       let d : drop b ns ≡ f ∷ (fs ++ (gs ++ rest)) = q ∙ ap (λ (l : List ℕ). f ∷ l) (append-assoc fs gs rest) in
       let (x, y, z) = head-at ns b d in
-      let w : drop (b + 1 + length fs) ns ≡ gs ++ rest = sym (drop-drop (length fs) (b + 1) ns) ∙ ap (drop (length fs)) z ∙ drop-at fs (gs ++ rest) (length fs) refl in
+      let w : drop (b + 1 + length fs) ns ≡ gs ++ rest
+      = sym (drop-drop (length fs) (b + 1) ns) ∙ ap (drop (length fs)) z ∙ drop-at fs (gs ++ rest) (length fs) refl in
       let (r′, vs, hs, s, o, m) = kth (b + 1 + length fs) k rest h w (omega arith) in
-      let n : b + 1 + length fs + taken t (drop (b + 1 + length fs) ns) k ≡ b + taken t (drop b ns) (suc k) =
-      (let u : taken t (drop b ns) (suc k) ≡ suc (length fs + taken t (gs ++ rest) k) = ap (λ (l : List ℕ). taken t l (suc k)) d ∙ taken-more f (fs ++ (gs ++ rest)) k e ∙ ap suc (past-trees (gs ++ rest) k g) in
-      rw w (omega arith)) in
+      let u : taken t (drop b ns) (suc k) ≡ suc (length fs + taken t (gs ++ rest) k)
+      = ap (λ (l : List ℕ). taken t l (suc k)) d ∙ taken-more f (fs ++ (gs ++ rest)) k e ∙ ap suc (past-trees (gs ++ rest) k g) in
+      let n : b + 1 + length fs + taken t (drop (b + 1 + length fs) ns) k ≡ b + taken t (drop b ns) (suc k) = rw w (omega arith) in
       (r′, vs, hs, subst (λ (n : ℕ). Stands n (getD As k 0) r′ vs hs) n s, o, simp length-append (omega arith))
 
   -- the category of daughter k, from 0
@@ -107,10 +116,14 @@ module _ (t ns : List ℕ) where
   Good = (i : ℕ) → i < length ns → 1 ≤ getD ns i 0 → FineRule t (getD ns i 0)
 
   abbrev Spelt : ℕ → Type 0
-  Spelt n = (at A c : ℕ) (r : Rule) (ts : Trees) (fs : List ℕ) → Stands at A r ts fs → length fs < n → c < dimensionOf t A → spelled t ns n at c ≡ getD (spell (node r ts)) c []
+  Spelt n =
+      (at A c : ℕ) (r : Rule) (ts : Trees) (fs : List ℕ) → Stands at A r ts fs → length fs < n → c < dimensionOf t A
+      → spelled t ns n at c ≡ getD (spell (node r ts)) c []
 
   -- a symbol's constituent is the daughter's
-  part-is : (n : ℕ) → Spelt n → (at A u : ℕ) (r : Rule) (ts : Trees) (fs : List ℕ) (s : Stands at A r ts fs) → length fs ≤ n → FineSymbol t (s .place) u
+  part-is :
+      (n : ℕ) → Spelt n → (at A u : ℕ) (r : Rule) (ts : Trees) (fs : List ℕ) (s : Stands at A r ts fs) → length fs ≤ n
+      → FineSymbol t (s .place) u
       → Agrees t (λ k d. spelled t ns n (daughter t ns at k) d) (spells ts) u
   part-is n rec at A u r ts fs s l f h =
       let (x, y, z) = head-at ns at (s .lies) in
@@ -121,7 +134,8 @@ module _ (t ns : List ℕ) where
       let i : s .place + 4 + k ≡ s .place + 3 + byte t u = omega arith in
       let g : getD (r .daughters) k 0 ≡ byte t (s .place + 3 + byte t u) = kind-of (s .place) k (s .rule) (omega arith) ∙ ap (byte t) i in
       let d : number t (u + 1) - 1 < dimensionOf t (getD (r .daughters) k 0) = rw g (omega arith) in
-      rec (daughter t ns at k) (getD (r .daughters) k 0) (number t (u + 1) - 1) r′ us gs o (omega arith) d ∙ ap (λ (l : List (List ℕ)). getD l (number t (u + 1) - 1) []) (sym e)
+      rec (daughter t ns at k) (getD (r .daughters) k 0) (number t (u + 1) - 1) r′ us gs o (omega arith) d
+      ∙ ap (λ (l : List (List ℕ)). getD l (number t (u + 1) - 1) []) (sym e)
 
   pub good-spelling : Good → (n : ℕ) → Spelt n
   unfolding spelled spell row rowAt ruleAt
@@ -136,5 +150,6 @@ module _ (t ns : List ℕ) where
       let g = f .rows c d′ in
       let h = run-row t (λ k d. spelled t ns n (daughter t ns at k) d) (spells ts) (byte t w) (w + 1)
       (λ i j. part-is n (good-spelling good n) at A (past i (λ p. p + 3) (w + 1)) r ts fs s (omega arith) (g .symbols i j)) in
-      let v : getD (r .rows) c [] ≡ rowAt t w = rw q (several-at (rowAt t) (rowEnd t) (dimensionOf t (categoryOf t (s .place))) (rowsOf t (s .place)) c [] d′) in
+      let v : getD (r .rows) c [] ≡ rowAt t w
+      = rw q (several-at (rowAt t) (rowEnd t) (dimensionOf t (categoryOf t (s .place))) (rowsOf t (s .place)) c [] d′) in
       rw y (h ∙ sym (ap (row (spells ts)) v) ∙ sym (List·getD-map (row (spells ts)) (r .rows) c []))

@@ -66,7 +66,9 @@ module _ (t : List ℕ) (v : FineTable t) where
   stands (grown-more {r} {ts} {us} {A} {f} {As} {fs} {gs} e c g grown-none) =
       (r, ts, fs, record { place = f; rest = []; rule = e; kind = c; grown = g; lies = refl }, refl, omega (arith, ap length (append-nil fs)))
 
-  only : {T : Tree} {A : ℕ} {fs : List ℕ} → OfAll (grammarOf t) (and T bare) (A ∷ []) → preorder (and T bare) ≡ fs → Of (grammarOf t) T A × (functions T ≡ fs)
+  only :
+      {T : Tree} {A : ℕ} {fs : List ℕ} → OfAll (grammarOf t) (and T bare) (A ∷ []) → preorder (and T bare) ≡ fs
+      → Of (grammarOf t) T A × (functions T ≡ fs)
   unfolding functions
   only {T} (of-more o os) p = (o, sym (append-nil (functions T)) ∙ p)
 
@@ -86,10 +88,12 @@ module _ (t : List ℕ) (v : FineTable t) where
       (node r us, record { kind = k; told = f }, w)
 
 module _ (t : List ℕ) (ok : checkTable t ≡ got tt) (fs : List ℕ) (few : length fs ≤ 255) where
+  -- a tree of at most 255 nodes has at most 12,240 words
+  pub words-few : (T : Tree) → Reads (grammarOf t) fs T → length (words T) ≤ 12240
+  words-few T r = words-most (grammarOf t) (valid-grammar t ok) (brief t (fine-table t ok)) T (r .kind) (rw (r .told) few)
+
   few-words : walked t (map (placeFor t) fs) ≡ none → length (whole t (map (placeFor t) fs)) ≤ 12240
-  few-words q =
-      let (T, r, w) = tells t (fine-table t ok) fs q in
-      rw w (words-most (grammarOf t) (valid-grammar t ok) (brief t (fine-table t ok)) T (r .kind) (rw (r .told) few))
+  few-words q = let (T, r, w) = tells t (fine-table t ok) fs q in rw w (words-few T r)
 
   -- what `judge` asks of the nodes
   pub judge-needs : {ns : List ℕ} → ns ≡ map (placeFor t) fs → Within t ns × (walked t ns ≡ none → length (whole t ns) ≤ 12240)
@@ -97,7 +101,9 @@ module _ (t : List ℕ) (ok : checkTable t ≡ got tt) (fs : List ℕ) (few : le
       subst (λ (l : List ℕ). Within t l × (walked t l ≡ none → length (whole t l) ≤ 12240)) (sym e) (within-of t (fine-table t ok) fs few, few-words)
 
   module _ (before : List ℕ) where
-    finished : {c p n : ℕ} {after : List ℕ} → Tells t (fine-table t ok) fs → Finished (whole t (map (placeFor t) fs)) before c p n after → SentenceWritten t fs before c p n after
+    finished :
+        {c p n : ℕ} {after : List ℕ} → Tells t (fine-table t ok) fs → Finished (whole t (map (placeFor t) fs)) before c p n after
+        → SentenceWritten t fs before c p n after
     finished (T, r, w) (cramped {n = n} e l a) =
         let q : length (words T) ≡ n = ap length (sym w) ∙ sym e in
         let k : length before < length (words T) = omega arith in
@@ -112,7 +118,9 @@ module _ (t : List ℕ) (ok : checkTable t ≡ got tt) (fs : List ℕ) (few : le
     answered (astray {i = i} e a) = rw a (wrong ok few (fault-is t fs ∙ e))
     answered (sound e f) = finished (tells t (fine-table t ok) fs e) f
 
-    pub answered-at : {ns : List ℕ} {c p n : ℕ} {after : List ℕ} → ns ≡ map (placeFor t) fs → Judged t ns before c p n after → SentenceWritten t fs before c p n after
+    pub answered-at :
+        {ns : List ℕ} {c p n : ℕ} {after : List ℕ} → ns ≡ map (placeFor t) fs → Judged t ns before c p n after
+        → SentenceWritten t fs before c p n after
     answered-at {c = c} {p = p} {n = n} {after = after} e j = answered (subst (λ (l : List ℕ). Judged t l before c p n after) e j)
 
 -- the text after the words that were written from its start on

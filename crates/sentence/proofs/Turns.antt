@@ -13,7 +13,9 @@ use Rattle.sentence.specs.Speech.{heard, run, rowPlace, spelled, below, 
 use Rattle.sentence.proofs.Places.{taken-most}
 
 -- the place of a row stays within reach of the table: past its end a row is one byte long
-pub row-bound : (t : List ℕ) (at left c b : ℕ) → b ≡ byte t at → b < 256 → at + left ≤ length t + 800 + c → left ≤ c → 0 < left → at + 1 + 3 * b + (left - 1) ≤ length t + 800 + c
+pub row-bound :
+    (t : List ℕ) (at left c b : ℕ) → b ≡ byte t at → b < 256 → at + left ≤ length t + 800 + c → left ≤ c → 0 < left
+    → at + 1 + 3 * b + (left - 1) ≤ length t + 800 + c
 row-bound t at left c b q r h l p = go (decLt at (length t))
   where
     go : Dec (at < length t) → at + 1 + 3 * b + (left - 1) ≤ length t + 800 + c
@@ -22,7 +24,9 @@ row-bound t at left c b q r h l p = go (decLt at (length t))
 
 sets-append : (l : List ℕ) (i : ℕ) (a b : List ℕ) → sets l i (a ++ b) ≡ sets (sets l i a) (i + length a) b
 sets-append l i [] b = let e : i ≡ i + 0 = omega arith in ap (λ (n : ℕ). sets l n b) e
-sets-append l i (x ∷ a) b = let e : suc i + length a ≡ i + suc (length a) = omega arith in sets-append (set l i x) (suc i) a b ∙ ap (λ (n : ℕ). sets (sets (set l i x) (suc i) a) n b) e
+sets-append l i (x ∷ a) b =
+    let e : suc i + length a ≡ i + suc (length a) = omega arith in
+    sets-append (set l i x) (suc i) a b ∙ ap (λ (n : ℕ). sets (sets (set l i x) (suc i) a) n b) e
 
 module _ (t : List ℕ) (say : ℕ → ℕ → List ℕ) where
   pub run-turn : (n place : ℕ) → 0 < n → run t say n place ≡ heard t say place ++ run t say (n - 1) (place + 3)
@@ -91,7 +95,8 @@ module _ (t ns : List ℕ) where
   heard-word n at place e = rw (eq-eqb (byte t place) 0 e)
 
   pub heard-is :
-      (n at place kind k d num e : ℕ) → kind ≡ byte t place → (kind ≡ 0 → ⊥) → k ≡ kind - 1 → d ≡ daughter t ns at k → num ≡ number t (place + 1) → e ≡ num - 1
+      (n at place kind k d num e : ℕ) → kind ≡ byte t place → (kind ≡ 0 → ⊥) → k ≡ kind - 1 → d ≡ daughter t ns at k
+      → num ≡ number t (place + 1) → e ≡ num - 1
       → heard t (below t ns n at) place ≡ spelled t ns n d e
   heard-is n at place kind k d num e p q f g h j =
       let z : byte t place ≡ 0 → ⊥ = λ x. q (p ∙ x) in

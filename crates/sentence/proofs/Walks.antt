@@ -74,11 +74,13 @@ module _ (t ns : List ℕ) (i w : ℕ) (s : List ℕ) where
   unfolding firsts
   top h = let e : w ≡ suc (w - 1) = omega arith in ap (λ (n : ℕ). firsts n s) e
 
-  pub walk-short : 0 < w → length ns ≤ i → Here ≡ some i
+  pub walk-short : 0 < w → i ≡ length ns → Here ≡ some (length ns)
   unfolding walk
-  walk-short l h = rw (top l, drop-of-length-le ns {i = i} h)
+  walk-short l h = let m : length ns ≤ i = omega arith in rw (top l, drop-of-length-le ns {i = i} m) (ap some h)
 
-  walk-step : 0 < w → i < length ns → Here ≡ fits (ruleOf t (getD ns i 0)) (getD s (w - 1) 0) (some i) (λ r. walk (ruleOf t) (i + 1) (r .daughters ++ firsts (w - 1) s) (drop (i + 1) ns))
+  walk-step :
+      0 < w → i < length ns
+      → Here ≡ fits (ruleOf t (getD ns i 0)) (getD s (w - 1) 0) (some i) (λ r. walk (ruleOf t) (i + 1) (r .daughters ++ firsts (w - 1) s) (drop (i + 1) ns))
   unfolding walk
   walk-step l h = rw (top l, drop-cons ns i 0 h, add-one)
 

@@ -1,7 +1,8 @@
 -- The nodes of a tree list by the places of their rules: what the code notes of them, and how it finds a daughter.
 -- Nothing here is a rule of its own.
 use Prim.Native.Nat.{ℕ, zero, suc, _+_, _≤_}
-use mathlib.Core.List.{List, [], _∷_}
+use mathlib.Core.Path.{_≡_}
+use mathlib.Core.List.{List, [], _∷_, _++_}
 use mathlib.Core.Option.{Option, none, some}
 use mathlib.Core.Bool.{cond}
 use lib.Dec.{eqb}
@@ -11,6 +12,7 @@ use Rattle.meaning.specs.Table.{byte, number, rankOf}
 use Rattle.meaning.specs.Decode.{ruleAt, ruleEnd, firstRule}
 use Rattle.meaning.specs.Accepted.{FineRule}
 use Rattle.meaning.specs.SentenceWriting.{walk}
+use Rattle.table.specs.Views.{firsts}
 use Rattle.sentence.specs.declared.walk.Walked.{Walked}
 use Rattle.sentence.specs.declared.walk.Walked.the-variants.{Whole, Wrong}
 
@@ -42,6 +44,11 @@ walked t ns = walk (ruleOf t) 0 (byte t 6 ∷ []) ns
 abbrev pub walkedOf : Walked → Option ℕ
 walkedOf Whole = none
 walkedOf (Wrong i) = some i
+
+-- of a stack whose first n numbers count, the latest first: the categories of a rule's daughters are put on it, the first on top
+pub record Pushed (t : List ℕ) (rule n : ℕ) (before after : List ℕ) (r : ℕ) : Type 0 where
+  pub count : r ≡ n + rankOf t rule
+  pub stack : firsts r after ≡ ruleAt t rule .daughters ++ firsts n before
 
 -- how many of these nodes the first n trees take
 unfoldable pub taken : List ℕ → List ℕ → ℕ → ℕ

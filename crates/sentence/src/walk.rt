@@ -1,12 +1,9 @@
 // One walk from the left over the noted nodes, with the categories still wanted on a stack.
 ghost use mathlib.Core.Path.{_≡_};
-ghost use mathlib.Core.List.{_++_};
 ghost use Prim.Native.Nat.{_+_, _≤_};
 ghost use lib.ListN.{length};
 ghost use Rattle.meaning.specs.Table.{rankOf};
-ghost use Rattle.meaning.specs.Decode.{ruleAt};
-ghost use Rattle.table.specs.Views.{firsts};
-ghost use Rattle.sentence.specs.Nodes.{Within, walked, walkedOf};
+ghost use Rattle.sentence.specs.Nodes.{Within, walked, walkedOf, Pushed};
 use table::byte_at;
 use table::size;
 
@@ -19,7 +16,7 @@ pub enum Walked {
 // Puts the categories of a rule's daughters on the stack of those wanted, the first on top.
 fn push(table: &[u8], rule: usize, stack: &mut [u16], wanted: usize) -> usize
     requires { ⌜ (rule ≤ length (now table)) × (rankOf (now table) rule ≤ 3) × (wanted + 3 ≤ length (now stack)) ⌝ }
-    ensures { λ r. ⌜ (r ≡ wanted + rankOf (now (table .entry)) rule) × (firsts r (now (stack .exit)) ≡ ruleAt (now (table .entry)) rule .daughters ++ firsts wanted (now (stack .entry))) ⌝ }
+    ensures { λ r. ⌜ Pushed (now (table .entry)) rule wanted (now (stack .entry)) (now (stack .exit)) r ⌝ }
 {
     let fourth = rule + 3;
     let mut left = size(byte_at(table, fourth));
@@ -58,8 +55,8 @@ pub fn first_wrong(table: &[u8], nodes: &[usize]) -> Walked
         wanted = push(table, rule, &mut stack, top);
         i += 1;
     }
-    if wanted == 0 {
-        return Walked::Whole;
+    if wanted > 0 {
+        return Walked::Wrong(nodes.len());
     }
-    Walked::Wrong(i)
+    Walked::Whole
 }

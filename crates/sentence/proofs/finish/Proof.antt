@@ -30,7 +30,8 @@ returns-2 c =
     let a = c .before .before .before .before .before .before .before .before .before .before .before .args in
     let s = c .before .before .before .before .before .before .say in
     let h = c .before .before .before .before .if1 .left in
-    written {n = s .result} (omega (arith, s .ensures .next)) h (finish-text (whole (a .table .now) (a .nodes .now)) (a .text .now) _ _ (s .ensures .next) h (c .before .before .say2 .ensures .text))
+    let w = finish-text (whole (a .table .now) (a .nodes .now)) (a .text .now) _ _ (s .ensures .next) h (c .before .before .say2 .ensures .text) in
+    written {n = s .result} (omega (arith, s .ensures .next)) h w
 
 pub finish-spec : {M : Type 1} → statement M
 finish-spec =

@@ -17,7 +17,9 @@ enum-told : tie.Need-enum-told
 enum-told c = search needs
 
 finish-requires : tie.Need-finish-requires
-finish-requires c κs = let s = c .before .before .before .before .before .before .before in (s .pre .0, s .pre .1 (knew walkedOf (c .before .before .before .first-wrong .ensures) (c .before .enum-told .given .1)))
+finish-requires c κs =
+    let s = c .before .before .before .before .before .before .before in
+    (s .pre .0, s .pre .1 (knew walkedOf (c .before .before .before .first-wrong .ensures) (c .before .enum-told .given .1)))
 
 returns : tie.Need-returns
 returns c = astray (knew walkedOf (c .before .before .before .first-wrong .ensures) (c .before .found .given .1)) refl
@@ -26,7 +28,9 @@ same-length : tie.Need-same-length
 same-length c = search needs
 
 returns-2 : tie.Need-returns-2
-returns-2 c = sound (knew walkedOf (c .before .before .before .before .before .before .first-wrong .ensures) (c .before .before .before .before .enum-told .given .1)) (c .before .before .finish .ensures)
+returns-2 c =
+    let e = knew walkedOf (c .before .before .before .before .before .before .first-wrong .ensures) (c .before .before .before .before .enum-told .given .1) in
+    sound e (c .before .before .finish .ensures)
 
 pub judge-spec : {M : Type 1} → statement M
 judge-spec =

@@ -1,16 +1,19 @@
-use mathlib.Core.Path.{_≡_, refl, sym, ap, _∙_}
-use Prim.Native.Nat.{_+_, _-_, _*_, _≤_, _<_}
+-- The daughter stands where the trees that are still to be passed end.
+use mathlib.Core.Path.{_≡_, refl, _∙_}
+use Prim.Native.Nat.{_+_, _-_, _*_, _≤_}
+use native.Mathlib.Omega.{arith}
+use borrow.Author.Needs.{needs}
 use lib.ListN.{length, drop, getD}
 use Rattle.meaning.specs.Table.{rankOf}
+use Rattle.sentence.specs.Nodes as spec
 use Rattle.sentence.specs.Nodes.{taken}
 use Rattle.sentence.proofs.Places.{taken-no, taken-end, taken-turn}
-use borrow.Author.Needs.{needs}
-use native.Mathlib.Omega.{arith}
 use Rattle.sentence.proofs.nodes.daughter.Statement.{statement}
 use Rattle.sentence.proofs.nodes.daughter.Tie as tie
 
 abbrev Inv-loop : tie.InvT-loop
-Inv-loop table nodes at k place₀ left₀ place left = (at + 1 + taken table (drop (at + 1) nodes) k ≡ place + taken table (drop place nodes) left) × (left ≤ k + 256 * place) × (place ≤ 511)
+Inv-loop table nodes at k place₀ left₀ place left =
+    (spec.daughter table nodes at k ≡ place + taken table (drop place nodes) left) × (left ≤ k + 256 * place) × (place ≤ 511)
 
 abbrev μ-loop : tie.MeasureT-loop
 μ-loop table nodes at k place₀ left₀ place left = length nodes - place
@@ -22,7 +25,10 @@ loop-holds : tie.Need-loop-holds Inv-loop μ-loop
 loop-holds c = (refl, omega arith, omega arith)
 
 returns : tie.Need-returns Inv-loop μ-loop
-returns c = omega (arith, taken-end (c .before .before .before .before .before .args .table .now) (c .before .before .before .before .before .args .nodes .now) (c .before .before .loop .place) (c .before .before .loop .left) (c .if1 .taken), c .before .before .loop .inv .0)
+returns c =
+    let a = c .before .before .before .before .before .args in
+    let l = c .before .before .loop in
+    omega (arith, taken-end (a .table .now) (a .nodes .now) (l .place) (l .left) (c .if1 .taken), l .inv .0)
 
 mul-fourth : tie.Need-mul-fourth Inv-loop μ-loop
 mul-fourth c = search needs
@@ -52,10 +58,19 @@ loop-less : tie.Need-loop-less Inv-loop μ-loop
 loop-less c = search needs
 
 loop-again : tie.Need-loop-again Inv-loop μ-loop
-loop-again c = let a = c .before .before .before .before .before .before .before .before .args in let l = c .before .before .before .before .before .loop in let u = taken-turn (a .table .now) (a .nodes .now) (l .place) (l .left) (omega arith) (omega arith) in let e : c .size .result ≡ rankOf (a .table .now) (getD (a .nodes .now) (l .place) 0) = c .size .ensures ∙ c .before .byte-at .ensures .0 in (rw e (omega (arith, u, l .inv .0)), omega (arith, c .before .before .before .before .before .before .before .before .pre .0 .few, c .before .byte-at .ensures, c .size .ensures), omega (arith, c .before .before .before .before .before .before .before .before .pre .0 .few))
+loop-again c =
+    let s = c .before .before .before .before .before .before .before .before in
+    let a = s .args in
+    let l = c .before .before .before .before .before .loop in
+    let u = taken-turn (a .table .now) (a .nodes .now) (l .place) (l .left) (omega arith) (omega arith) in
+    let e : c .size .result ≡ rankOf (a .table .now) (getD (a .nodes .now) (l .place) 0) = c .size .ensures ∙ c .before .byte-at .ensures .0 in
+    (rw e (omega (arith, u, l .inv .0)), omega (arith, s .pre .0 .few, c .before .byte-at .ensures, c .size .ensures), omega (arith, s .pre .0 .few))
 
 returns-2 : tie.Need-returns-2 Inv-loop μ-loop
-returns-2 c = omega (arith, taken-no (c .before .before .before .before .args .table .now) (drop (c .before .loop .place) (c .before .before .before .before .args .nodes .now)) (c .before .loop .left) (omega arith), c .before .loop .inv .0)
+returns-2 c =
+    let a = c .before .before .before .before .args in
+    let l = c .before .loop in
+    omega (arith, taken-no (a .table .now) (drop (l .place) (a .nodes .now)) (l .left) (omega arith), l .inv .0)
 
 pub daughter-spec : {M : Type 1} → statement M
 daughter-spec =

@@ -1,7 +1,7 @@
-use lib.ListN.{List·getD-eq-default}
+-- Past the last node there is the 0 that `getD` gives.
 use mathlib.Core.Path.{sym}
-use native.Mathlib.Omega.{arith}
 use borrow.Author.Needs.{needs}
+use lib.ListN.{List·getD-eq-default}
 use Rattle.sentence.proofs.nodes.node_at.Statement.{statement}
 use Rattle.sentence.proofs.nodes.node_at.Tie as tie
 

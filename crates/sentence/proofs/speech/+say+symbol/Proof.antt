@@ -7,8 +7,9 @@ use borrow.Author.Needs.{needs}
 use borrow.Fn.Kinds.{In}
 use borrow.Fn.PlainCycle.{Measures, is, falls, and}
 use lib.ListN.{length, getD}
-use Rattle.sentence.specs.Speech.{heard, run, rowPlace, spelled, below}
-use Rattle.sentence.proofs.Turns.{Still, began, spoke, one-on, run-turn, run-none, heard-fits, spelled-none, spelled-row, heard-word, heard-is, daughter-most, word-spoke, spoke-same}
+use Rattle.sentence.specs.Speech.{heard, run, rowPlace, spelled, below, Near}
+use Rattle.sentence.proofs.Turns.{Still, began, spoke, one-on, word-spoke, spoke-same}
+use Rattle.sentence.proofs.Turns.{run-turn, run-none, heard-fits, spelled-none, spelled-row, heard-word, heard-is, daughter-most}
 use Rattle.sentence.proofs.nodes.daughter.Reads as daughter-reads
 use Rattle.sentence.proofs.nodes.node_at.Reads as node-at-reads
 use Rattle.sentence.proofs.speech.less_one.Reads as less-one-reads
@@ -110,8 +111,9 @@ module _ (m : ℕ) where
       let r = c .before .before .row-place in
       let b = c .before .byte-at in
       let q : r .result ≡ rowPlace (a .table .now) (getD (a .nodes .now) (a .at) 0) (a .c)
-      = r .ensures .0 ∙ ap (λ (p : ℕ). rowPlace (a .table .now) p (a .c)) (c .before .before .before .node-at .ensures) in (
-        began _ _ (spelled-row (a .table .now) (a .nodes .now) (a .left) (a .at) (a .c) (r .result) (c .size .result) _ (omega arith) q (c .size .ensures ∙ b .ensures .0) refl),
+      = r .ensures .0 ∙ ap (λ (p : ℕ). rowPlace (a .table .now) p (a .c)) (c .before .before .before .node-at .ensures) in
+      let n = c .size .ensures ∙ b .ensures .0 in (
+        began _ _ (spelled-row (a .table .now) (a .nodes .now) (a .left) (a .at) (a .c) (r .result) (c .size .result) _ (omega arith) q n refl),
         omega (arith, r .ensures .1, b .ensures .1, c .size .ensures),
         refl,
       )
@@ -122,8 +124,9 @@ module _ (m : ℕ) where
       let a = s .args in
       let l = c .before .before .loop in
       let near = s .pre .1 .1 .0 in
-      let fits = heard-fits (a .table .now) (below (a .table .now) (a .nodes .now) (a .left - 1) (a .at)) (l .symbols) (l .place) (l .next) 12240 (c .before .loop-test .taken)
-      (omega (arith, l .inv .0 .length, s .pre .1 .1 .1)) in
+      let say = below (a .table .now) (a .nodes .now) (a .left - 1) (a .at) in
+      let left : l .next + length (run (a .table .now) say (l .symbols) (l .place)) ≤ 12240 = omega (arith, l .inv .0 .length, s .pre .1 .1 .1) in
+      let fits = heard-fits (a .table .now) say (l .symbols) (l .place) (l .next) 12240 (c .before .loop-test .taken) left in
       (omega (arith, s .pre .0), (s .pre .1 .0, (record { levels = omega (arith, near); node = omega (arith, near); symbol = omega arith }, fits)))
 
   add-place-2 : say-lts.Need-add-place-2 (say-calls m) (say-at m) say.Post Inv-loop μ-loop
@@ -152,14 +155,21 @@ module _ (m : ℕ) where
 
 -- `symbol`
 module _ (m : ℕ) where
+  -- what the symbol is to say
+  abbrev Heard : symbol-lts.Start (symbol-calls m) (symbol-at m) symbol.Post → List ℕ
+  Heard s = let a = s .args in heard (a .table .now) (below (a .table .now) (a .nodes .now) (a .fewer) (a .at)) (a .place)
+
   -- a symbol whose kind is 0 says its number
-  says-word : (c : symbol-lts.Then1 (symbol-calls m) (symbol-at m) symbol.Post) → (let a = c .before .before .before .before .before .before .args in heard (a .table .now) (below (a .table .now) (a .nodes .now) (a .fewer) (a .at)) (a .place) ≡ c .before .before .number-at .result ∷ [])
+  says-word : (c : symbol-lts.Then1 (symbol-calls m) (symbol-at m) symbol.Post) → Heard (c .before .before .before .before .before .before) ≡ c .before .before .number-at .result ∷ []
   says-word c =
       let a = c .before .before .before .before .before .before .args in
-      heard-word (a .table .now) (a .nodes .now) (a .fewer) (a .at) (a .place) (sym (c .before .byte-at .ensures .0) ∙ c .if1 .taken) ∙ ap (λ (w : ℕ). w ∷ []) (sym (c .before .before .number-at .ensures))
+      heard-word (a .table .now) (a .nodes .now) (a .fewer) (a .at) (a .place) (sym (c .before .byte-at .ensures .0) ∙ c .if1 .taken)
+      ∙ ap (λ (w : ℕ). w ∷ []) (sym (c .before .before .number-at .ensures))
 
   -- any other says the constituent of the daughter that is found
-  says-part : (c : symbol-lts.After-less-one2 (symbol-calls m) (symbol-at m) symbol.Post) → (let a = c .before .before .before .before .before .before .before .before .before .args in heard (a .table .now) (below (a .table .now) (a .nodes .now) (a .fewer) (a .at)) (a .place) ≡ spelled (a .table .now) (a .nodes .now) (a .fewer) (c .before .daughter .result) (c .less-one2 .result))
+  says-part :
+      (c : symbol-lts.After-less-one2 (symbol-calls m) (symbol-at m) symbol.Post)
+      → (let a = c .before .before .before .before .before .before .before .before .before .args in Heard (c .before .before .before .before .before .before .before .before .before) ≡ spelled (a .table .now) (a .nodes .now) (a .fewer) (c .before .daughter .result) (c .less-one2 .result))
   says-part c =
       let a = c .before .before .before .before .before .before .before .before .before .args in
       let b = c .before .before .before .before .byte-at in
@@ -182,13 +192,13 @@ module _ (m : ℕ) where
   symbol-put-requires c κs = search needs
 
   symbol-add-result : symbol-lts.Need-add-result (symbol-calls m) (symbol-at m) symbol.Post
-  symbol-add-result c = omega (arith, c .before .before .before .before .before .before .before .before .before .before .pre .1 .1 .1, ap length (says-word (c .before .before .before .before)))
+  symbol-add-result c = let s = c .before .before .before .before .before .before .before .before .before .before in omega (arith, s .pre .1 .1 .1, ap length (says-word (c .before .before .before .before)))
 
   symbol-same-length : symbol-lts.Need-same-length (symbol-calls m) (symbol-at m) symbol.Post
   symbol-same-length c = c .before .before .put .kept .0
 
   symbol-returns : symbol-lts.Need-returns (symbol-calls m) (symbol-at m) symbol.Post
-  symbol-returns c = word-spoke (c .before .before .before .before .before .before .number-at .result) (says-word (c .before .before .before .before)) (c .before .before .put .ensures) refl
+  symbol-returns c = word-spoke _ (says-word (c .before .before .before .before)) (c .before .before .put .ensures) refl
 
   symbol-less-one-requires : symbol-lts.Need-less-one-requires (symbol-calls m) (symbol-at m) symbol.Post
   symbol-less-one-requires c κs = search needs
@@ -207,8 +217,11 @@ module _ (m : ℕ) where
       let a = s .args in
       let close = s .pre .1 .1 .0 in
       let d = c .before .before .daughter in
-      let place = daughter-most (a .table .now) (a .nodes .now) (a .fewer) (a .at) (c .before .before .before .less-one .result) (d .result) (d .ensures) (s .pre .1 .0 .few) (close .levels) (close .node) in
-      (omega (arith, s .pre .0), (s .pre .1 .0, (record { levels = omega (arith, close); place = place; constituent = c .before .less-one2 .ensures .1 }, rw (← says-part (c .before)) (s .pre .1 .1 .1))))
+      let few = s .pre .1 .0 .few in
+      let place = daughter-most (a .table .now) (a .nodes .now) (a .fewer) (a .at) _ (d .result) (d .ensures) few (close .levels) (close .node) in
+      let near : Near (a .fewer) (d .result) (c .before .less-one2 .result)
+      = record { levels = omega (arith, close); place = place; constituent = c .before .less-one2 .ensures .1 } in
+      (omega (arith, s .pre .0), (s .pre .1 .0, (near, rw (← says-part (c .before)) (s .pre .1 .1 .1))))
 
   symbol-same-length-2 : symbol-lts.Need-same-length-2 (symbol-calls m) (symbol-at m) symbol.Post
   symbol-same-length-2 c = c .before .before .say .kept .1 .1 .1 .1 .1 .0

@@ -1,7 +1,7 @@
-use lib.Seq.{set-out}
+-- Out of room `set` changes nothing.
 use mathlib.Core.Path.{sym}
-use native.Mathlib.Omega.{arith}
 use borrow.Author.Needs.{needs}
+use lib.Seq.{set-out}
 use Rattle.sentence.proofs.speech.put.Statement.{statement}
 use Rattle.sentence.proofs.speech.put.Tie as tie
 

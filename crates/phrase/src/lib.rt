@@ -18,4 +18,5 @@ pub use ranges::Range;
 pub use ranges::is_range;
 pub use ranges::joined;
 pub use rows::Row;
+pub use rows::row_next;
 pub use rows::row_of;

@@ -209,7 +209,7 @@ fn later(a: usize, b: usize) -> usize
 }
 
 // The first range that the row can have from a place on.
-pub(crate) fn row_next(table: &[u8], row: Row, words: &[u16], d: Daughters, from: usize) -> Join
+pub fn row_next(table: &[u8], row: Row, words: &[u16], d: Daughters, from: usize) -> Join
     requires { ⌜ EndsIn (now table) row ⌝ }
     ensures { λ r. ⌜ Next startOf (Has (now (words .entry)) d (symbolsOf (now (table .entry)) row)) from (joinOf r) ⌝ }
 {

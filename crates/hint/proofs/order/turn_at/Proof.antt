@@ -21,7 +21,7 @@ returns : tie.Need-returns
 returns c = search needs
 
 turn-in-requires : tie.Need-turn-in-requires
-turn-in-requires c κs = row-ends (c .before .before .before .before .before .args .table .now) _ (c .before .place .given .1) (c .before .before .before .row-of .ensures .1)
+turn-in-requires c κs = row-ends (c .before .before .before .before .before .args .table .now) _ (c .before .place .given .1) (c .before .before .before .row-of .ensures .ends)
 
 returns-2 : tie.Need-returns-2
 returns-2 c = search needs

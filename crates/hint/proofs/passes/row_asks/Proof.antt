@@ -30,17 +30,17 @@ opening-requires : tie.Need-opening-requires
 opening-requires c κs = search needs
 
 from-left-requires : tie.Need-from-left-requires
-from-left-requires c κs = row-ends (c .before .before .before .before .before .before .before .args .table .now) _ (c .before .before .place .given .1) (c .before .before .before .before .row-of .ensures .1)
+from-left-requires c κs = row-ends (c .before .before .before .before .before .before .before .args .table .now) _ (c .before .before .place .given .1) (c .before .before .before .before .row-of .ensures .ends)
 
 closing-requires : tie.Need-closing-requires
 closing-requires c κs = search needs
 
 from-right-requires : tie.Need-from-right-requires
-from-right-requires c κs = row-ends (c .before .before .before .before .before .before .before .before .before .args .table .now) _ (c .before .before .before .before .place .given .1) (c .before .before .before .before .before .before .row-of .ensures .1)
+from-right-requires c κs = row-ends (c .before .before .before .before .before .before .before .before .before .args .table .now) _ (c .before .before .before .before .place .given .1) (c .before .before .before .before .before .before .row-of .ensures .ends)
 
 returns-2 : tie.Need-returns-2
 returns-2 c =
-    let e = sym (c .before .before .before .before .before .before .before .row-of .ensures .0) ∙ ap (symbolsOf (c .before .before .before .before .before .before .before .before .before .before .args .table .now)) (c .before .before .before .before .before .place .given .1) in
+    let e = sym (c .before .before .before .before .before .before .before .row-of .ensures .symbols) ∙ ap (symbolsOf (c .before .before .before .before .before .before .before .before .before .before .args .table .now)) (c .before .before .before .before .before .place .given .1) in
     sharper-then (sharper-then sharper-none (ways-as e (c .before .before .before .opening .ensures)) (c .before .before .from-left .ensures)) (ways-as e (c .before .closing .ensures)) (c .from-right .ensures)
 
 pub row-asks-spec : {M : Type 1} → statement M

@@ -36,7 +36,7 @@ never e f = let z : _≡_ {A = ℕ} 0 1 = cc in absurd (omega arith)
 same-refusal : {g : Got (Unit {0})} {r s : Refusal} → g ≡ refused r → g ≡ refused s → r ≡ s
 same-refusal e f = cc
 
-table-accepted : (t w : List ℕ) → checkInput t w ≡ got tt → checkTable t ≡ got tt
+pub table-accepted : (t w : List ℕ) → checkInput t w ≡ got tt → checkTable t ≡ got tt
 unfolding checkInput
 table-accepted t w e = go (checkTable t) e
   where

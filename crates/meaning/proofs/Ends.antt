@@ -126,7 +126,7 @@ body-end t at next w e =
       r′,
     )
 
-head-more : (t earlier : List ℕ) (at next : ℕ) → ruleHead t earlier at ≡ got next → (1 ≤ number t at) × (1 ≤ categoryOf t at) × (categoryOf t at ≤ byte t 5) × (at + 4 ≤ length t)
+pub head-more : (t earlier : List ℕ) (at next : ℕ) → ruleHead t earlier at ≡ got next → (1 ≤ number t at) × (1 ≤ categoryOf t at) × (categoryOf t at ≤ byte t 5) × (at + 4 ≤ length t)
 unfolding ruleHead numberField
 head-more t earlier at next e =
     let f = both (numberField t at) _ next e in

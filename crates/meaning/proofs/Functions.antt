@@ -22,7 +22,7 @@ new t earlier at next e =
     let h′ = after (member (f .0 .0) earlier) _ _ next (h .1) in
     subst (λ (p : ℕ × ℕ). member (p .0) earlier ≡ false) (sym n) (h′ .0)
 
-joins : (t : List ℕ) (s s′ : ℕ × List ℕ) → rule t s ≡ got s′ → (member (number t (s .0)) (s .1) ≡ false) × (s′ ≡ (ruleEnd t (s .0), number t (s .0) ∷ s .1))
+pub joins : (t : List ℕ) (s s′ : ℕ × List ℕ) → rule t s ≡ got s′ → (member (number t (s .0)) (s .1) ≡ false) × (s′ ≡ (ruleEnd t (s .0), number t (s .0) ∷ s .1))
 unfolding rule
 joins t s s′ e =
     let h = both (ruleHead t (s .1) (s .0)) _ s′ e in

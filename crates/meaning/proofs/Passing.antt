@@ -79,7 +79,7 @@ shows (e ∷ C) rest (suc i) h =
     })
 
 -- what a record shows is read back
-slice-at : (a b : ℕ) (c : List ℕ) (k : ℕ) → a + k < b → getD (slice a b c) k 0 ≡ getD c (a + k) 0
+pub slice-at : (a b : ℕ) (c : List ℕ) (k : ℕ) → a + k < b → getD (slice a b c) k 0 ≡ getD c (a + k) 0
 slice-at a b c k h = getD-drop a (take b c) k 0 ∙ getD-take b c (a + k) 0 h
 
 module _ {c : List ℕ} {i : ℕ} {e : Entry Item} (s : Shows c i e) where

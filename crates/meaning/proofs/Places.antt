@@ -29,7 +29,7 @@ row-most : (t : List ℕ) (rule at : ℕ) → FineRow t rule at → rowEnd t at 
 unfolding rowEnd
 row-most t rule at f = past-most (byte t at) 16 3 (λ p. p + 3) (at + 1) (at + 49) (f .short) (λ i h. omega arith) (omega arith)
 
-rule-most : (t : List ℕ) (at : ℕ) → dimensionOf t (categoryOf t at) ≤ 3 → FineRule t at → ruleEnd t at ≤ at + 154
+pub rule-most : (t : List ℕ) (at : ℕ) → dimensionOf t (categoryOf t at) ≤ 3 → FineRule t at → ruleEnd t at ≤ at + 154
 unfolding ruleEnd
 rule-most t at d f =
     let p : rowsOf t at ≤ at + 7 = past-most (rankOf t at) 3 1 (λ p. p + 1) (at + 4) (at + 7) (f .rank) (λ i h. omega arith) (omega arith) in

@@ -10,7 +10,7 @@ use lib.Seq.{slice, slice-cons, slice-empty, take-take, length-slice, take-at, d
 use Rattle.meaning.specs.Range.{Range, none, IsRange, Spans}
 use Rattle.meaning.proofs.Joining.{Join, left, right, next, range-path}
 
-slice-join : (s m e : ℕ) (ws : List ℕ) → s ≤ m → m ≤ e → slice s m ws ++ slice m e ws ≡ slice s e ws
+pub slice-join : (s m e : ℕ) (ws : List ℕ) → s ≤ m → m ≤ e → slice s m ws ++ slice m e ws ≡ slice s e ws
 slice-join zero m e ws h k = rw (← take-take m e ws k) (take-append-drop m (take e ws))
 slice-join (suc s) zero e ws h k = absurd (omega arith)
 slice-join (suc s) (suc m) zero ws h k = absurd (omega arith)

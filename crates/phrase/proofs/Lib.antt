@@ -6,3 +6,4 @@ pub mod Fit
 pub mod RuleThere
 pub mod Product
 pub mod Offers
+pub mod Once

@@ -1,6 +1,6 @@
 -- The first of a product: of pairs by a key that puts the first's key before the second's, which stays below a bound.
 use Prim.Native.Nat.{ℕ, _+_, _≤_, _<_}
-use mathlib.Core.Path.{_≡_, refl, sym, ap, _∙_, subst}
+use mathlib.Core.Path.{_≡_, refl, sym, _∙_, subst}
 use mathlib.Core.Bool.{Bool, true, false, cond}
 use mathlib.Core.Option.{Option, none as apart, some as just}
 use native.Mathlib.Omega.{arith}

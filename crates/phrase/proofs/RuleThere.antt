@@ -3,7 +3,8 @@ use Prim.Native.Nat.{ℕ, zero, suc, _+_, _≤_, _<_, min}
 use mathlib.Core.Path.{_≡_, refl, sym, ap, _∙_, subst}
 use mathlib.Core.List.{List, [], List·Memᴰ as Mem}
 use native.Mathlib.Omega.{arith}
-use lib.ListN.{length, getD, take, length-take, length-map}
+use borrow.Author.Tests.{lt-ltb, le-ltb}
+use lib.ListN.{length, getD, length-take, length-map}
 use lib.Seq.{ext-getD}
 use Rattle.meaning.specs.Range.{Item, at}
 use Rattle.meaning.specs.Giving.{done, categories, Gives}
@@ -14,9 +15,10 @@ use Rattle.meaning.proofs.Laws.{counts-all}
 use Rattle.meaning.proofs.Ends.{fine-table}
 use Rattle.meaning.proofs.Places.{dim-most, past-one, past-grows, row-grows, rows-are}
 use Rattle.meaning.proofs.Decoded.{several-length, several-at, several-past, mem-several}
+use Rattle.phrase.specs.declared.rows.Row.the-variants.{At, Past}
 use Rattle.phrase.specs.declared.items.Item.{Item as CodedItem}
 use Rattle.phrase.specs.declared.items.Daughters.{Daughters}
-use Rattle.phrase.specs.Phrase.{itemOf, itemsOf, RuleOf, Has, rowOf, GivesAt}
+use Rattle.phrase.specs.Phrase.{itemOf, itemsOf, RuleOf, rowOf, rowThere, RowIs, Has, GivesAt}
 
 module _ (t : List ℕ) (rule : ℕ) (o : RuleOf t rule) where
   pub fine : FineRule t rule
@@ -37,19 +39,31 @@ module _ (t : List ℕ) (rule : ℕ) (o : RuleOf t rule) where
       let e : past (dimensionOf t (categoryOf t rule)) (rowEnd t) (rowsOf t rule) ≤ length t = fine .end in
       omega (arith, rows-are t rule)
 
-  pub row-past : (i : ℕ) → dimensionOf t (categoryOf t rule) ≤ i → [] ≡ rowOf t rule i
+  -- row i: past the last one there is none, and each other ends within the table
+  none-there : (i : ℕ) → dimensionOf t (categoryOf t rule) ≤ i → [] ≡ rowOf t rule i
   unfolding ruleAt
-  row-past i h = sym (several-past (rowAt t) (rowEnd t) (dimensionOf t (categoryOf t rule)) (rowsOf t rule) i [] h)
+  none-there i h = sym (several-past (rowAt t) (rowEnd t) (dimensionOf t (categoryOf t rule)) (rowsOf t rule) i [] h)
 
-  pub row-there : (i : ℕ) → i < dimensionOf t (categoryOf t rule) → rowAt t (past i (rowEnd t) (rowsOf t rule)) ≡ rowOf t rule i
-  unfolding ruleAt
-  row-there i h = sym (several-at (rowAt t) (rowEnd t) (dimensionOf t (categoryOf t rule)) (rowsOf t rule) i [] h)
+  pub row-past : (i : ℕ) → dimensionOf t (categoryOf t rule) ≤ i → RowIs t rule i Past
+  unfolding rowThere
+  row-past i h = record { there = simp (le-ltb i (dimensionOf t (categoryOf t rule)) h); symbols = none-there i h; ends = tt }
 
-  pub row-in : (i : ℕ) → i < dimensionOf t (categoryOf t rule) → rowEnd t (past i (rowEnd t) (rowsOf t rule)) ≤ length t
+  row-in : (i : ℕ) → i < dimensionOf t (categoryOf t rule) → rowEnd t (past i (rowEnd t) (rowsOf t rule)) ≤ length t
   row-in i h = fine .rows i h .end
 
   pub row-place-in : (i : ℕ) → i < dimensionOf t (categoryOf t rule) → past i (rowEnd t) (rowsOf t rule) ≤ length t
   row-place-in i h = let g = row-grows t (past i (rowEnd t) (rowsOf t rule)) in let e = row-in i h in omega arith
+
+  row-there : (i : ℕ) → i < dimensionOf t (categoryOf t rule) → RowIs t rule i (At (past i (rowEnd t) (rowsOf t rule)))
+  unfolding rowThere ruleAt
+  row-there i h = record {
+    there = simp (lt-ltb i (dimensionOf t (categoryOf t rule)) h);
+    symbols = sym (several-at (rowAt t) (rowEnd t) (dimensionOf t (categoryOf t rule)) (rowsOf t rule) i [] h);
+    ends = row-in i h;
+  }
+
+  pub row-at-place : (i : ℕ) {place : ℕ} → i < dimensionOf t (categoryOf t rule) → past i (rowEnd t) (rowsOf t rule) ≡ place → RowIs t rule i (At place)
+  row-at-place i h e = subst (λ (p : ℕ). RowIs t rule i (At p)) e (row-there i h)
 
   -- the daughters' categories
   pub wanted-past : (k : ℕ) → rankOf t rule ≤ k → 0 ≡ getD (ruleAt t rule .daughters) k 0
@@ -100,7 +114,7 @@ module _ (t : List ℕ) (rule : ℕ) (o : RuleOf t rule) where
           each zero = a
           each (suc zero) = b
           each (suc (suc zero)) = c
-          each (suc (suc (suc i))) = rw (← row-past (suc (suc (suc i))) (omega (arith, three-rows))) (done refl)
+          each (suc (suc (suc i))) = rw (← none-there (suc (suc (suc i))) (omega (arith, three-rows))) (done refl)
 
       pub give : (x : CodedItem) → x .category ≡ categoryOf t rule → categories (itemsOf d) ≡ ruleAt t rule .daughters
           → Has ws d (rowOf t rule 0) (at (itemOf x) 0) → Has ws d (rowOf t rule 1) (at (itemOf x) 1) → Has ws d (rowOf t rule 2) (at (itemOf x) 2)

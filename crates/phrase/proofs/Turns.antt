@@ -8,7 +8,7 @@ use native.Mathlib.Numerals.{add-one}
 use lib.ListN.{length}
 use borrow.Author.Tests.{eq-eqb, ne-eqb}
 use Rattle.meaning.specs.Range.{Range, joined}
-use Rattle.meaning.specs.Grammar.{Symbol, word, part}
+use Rattle.meaning.specs.Grammar.{Symbol}
 use Rattle.meaning.specs.Table.{byte, number}
 use Rattle.meaning.specs.Decode.{several, symbolAt, rowAt}
 use Rattle.phrase.specs.Row.{after, wordHere, partHere, site, andThen, eval, Starts, opens, starts}

@@ -4,7 +4,7 @@ use mathlib.Core.Path.{_≡_, refl, sym, ap, _∙_}
 use mathlib.Core.Bool.{Bool, true, false, _&&_}
 use mathlib.Core.List.{List, [], _∷_}
 use native.Mathlib.Omega.{arith}
-use lib.ListN.{length, getD, take, length-take, List·getD-eq-default, List·getD-map}
+use lib.ListN.{getD, length-take, List·getD-eq-default, List·getD-map}
 use lib.Seq.{getD-take}
 use Rattle.meaning.specs.Range.{none, Item, nothing, at}
 use Rattle.meaning.specs.Giving.{categories}

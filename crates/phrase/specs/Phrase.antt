@@ -1,15 +1,16 @@
 -- What the structs and enums of the code mean, and what the functions over them promise.
 use Prim.Native.Nat.{ℕ, _+_, _*_, _≤_, _<_}
 use mathlib.Core.Path.{_≡_}
-use mathlib.Core.Bool.{Bool, true, false}
+use mathlib.Core.Bool.{Bool, true, false, cond}
 use mathlib.Core.Option.{Option, none as apart, some as just}
 use mathlib.Core.List.{List, [], _∷_}
+use lib.Dec.{ltb}
 use lib.ListN.{length, getD, take}
 use Rattle.meaning.specs.Range.{Range, Item}
 use Rattle.meaning.specs.Grammar.{Symbol}
 use Rattle.meaning.specs.Giving.{Run, Stands, held, Gives}
-use Rattle.meaning.specs.Table.{got, checkTable, number}
-use Rattle.meaning.specs.Decode.{past, rowAt, rowEnd, ruleAt, ruleEnd, firstRule, grammarOf}
+use Rattle.meaning.specs.Table.{got, checkTable, number, dimensionOf, categoryOf}
+use Rattle.meaning.specs.Decode.{past, rowAt, rowEnd, rowsOf, ruleAt, ruleEnd, firstRule, grammarOf}
 use Rattle.phrase.specs.Row.{Starts}
 use Rattle.phrase.specs.declared.ranges.Range.{Range as Coded}
 use Rattle.phrase.specs.declared.ranges.Join.{Join}
@@ -24,10 +25,11 @@ use Rattle.phrase.specs.declared.giving.Pair.the-variants.{Both, Neither
 use Rattle.phrase.specs.declared.giving.Given.{Given}
 use Rattle.phrase.specs.declared.giving.Given.the-variants.{Ranges, Over}
 
--- a range of the code, and what joining or a row answers: a range, or none
+-- a range of the code
 abbrev pub rangeOf : Coded → Range
 rangeOf p = record { from = p .from; to = p .to }
 
+-- what joining or a row answers: Joined is a range, Apart is none
 abbrev pub joinOf : Join → Option Range
 joinOf (Joined p) = just (rangeOf p)
 joinOf Apart = apart
@@ -36,14 +38,15 @@ joinOf Apart = apart
 abbrev pub startsOf : CodedStarts → Starts
 startsOf s = record { first = s .first; end = s .end }
 
--- an item, without its height
+-- the range whose start is number i of a list, with its end next to it
 abbrev pub ends : List ℕ → ℕ → Range
 ends l i = record { from = getD l i 0; to = getD l (i + 1) 0 }
 
+-- an item of the code, without its height: six numbers are its three ranges
 unfoldable pub itemOf : CodedItem → Item
 itemOf x = record { category = x .category; one = ends (x .ends) 0; two = ends (x .ends) 2; three = ends (x .ends) 4 }
 
--- the daughters that there are
+-- the daughters that there are: the first count of three
 unfoldable pub itemsOf : Daughters → List Item
 itemsOf d = take (d .count) (itemOf (d .one) ∷ itemOf (d .two) ∷ itemOf (d .three) ∷ [])
 
@@ -51,11 +54,12 @@ itemsOf d = take (d .count) (itemOf (d .one) ∷ itemOf (d .two) ∷ itemOf (d .
 abbrev pub heldOf : Daughters → ℕ → ℕ → Range
 heldOf d = held (itemsOf d)
 
--- a row's symbols, and that its bytes are there
+-- a row's symbols: At is the row whose bytes stand at a place, Past is a row with nothing in it
 abbrev pub symbolsOf : List ℕ → Row → List Symbol
 symbolsOf t (At place) = rowAt t place
 symbolsOf t Past = []
 
+-- the row's bytes are within the table
 abbrev pub EndsIn : List ℕ → Row → Type 0
 EndsIn t (At place) = rowEnd t place ≤ length t
 EndsIn t Past = Unit {0}
@@ -67,9 +71,19 @@ pub record RuleOf (t : List ℕ) (place : ℕ) : Type 0 where
   pub below : index < number t 7
   pub there : place ≡ past index (ruleEnd t) (firstRule t)
 
--- row i of the rule at a place
+-- the symbols of row i of the rule at a place, from 0
 abbrev pub rowOf : List ℕ → ℕ → ℕ → List Symbol
 rowOf t rule i = getD (ruleAt t rule .rows) i []
+
+-- where the bytes of that row stand; past the last row there are none
+unfoldable pub rowThere : List ℕ → ℕ → ℕ → Row
+rowThere t rule i = cond (ltb i (dimensionOf t (categoryOf t rule))) (At (past i (rowEnd t) (rowsOf t rule))) Past
+
+-- r is row i of the rule at a place; the rest follows where the rule is one of an accepted table
+pub record RowIs (t : List ℕ) (rule i : ℕ) (r : Row) : Type 0 where
+  pub there : r ≡ rowThere t rule i
+  pub symbols : symbolsOf t r ≡ rowOf t rule i
+  pub ends : EndsIn t r
 
 -- a test's answer is whether P holds
 pub data Decides (P : Type 0) : Bool → Type 0 where
@@ -98,34 +112,40 @@ pub data Next {A : Type 0} (key : A → ℕ) (P : A → Type 0) (from : ℕ) : O
 abbrev pub startOf : Range → ℕ
 startOf r = r .from
 
--- two rows' ranges, and three rows', go by the first start, then the next; all starts are below 65
+-- a range for each of two rows
 abbrev pub Two : Type 0
 Two = Range × Range
 
+-- the number of two ranges: they go by the first start, then the next; all starts are below 65
 abbrev pub twoStarts : Two → ℕ
 twoStarts p = p .0 .from * 65 + p .1 .from
 
+-- the ranges are some that the two rows can have
 abbrev pub HasTwo : List ℕ → Daughters → List Symbol → List Symbol → Two → Type 0
 HasTwo ws d one two p = Has ws d one (p .0) × Has ws d two (p .1)
 
+-- a range for each of three rows
 abbrev pub Three : Type 0
 Three = Range × Two
 
+-- the number of three ranges: the first start, then the number of the two others, which is below 65 * 65
 abbrev pub threeStarts : Three → ℕ
 threeStarts p = p .0 .from * 4225 + twoStarts (p .1)
 
+-- the ranges are some that the three rows can have
 abbrev pub HasThree : List ℕ → Daughters → List Symbol → List Symbol → List Symbol → Three → Type 0
 HasThree ws d one two three p = Has ws d one (p .0) × HasTwo ws d two three (p .1)
 
--- the answers for two rows and for three
+-- the answer for two rows: Both is a range for each, Neither is none
 abbrev pub pairOf : Pair → Option Two
 pairOf (Both p q) = just (rangeOf p, rangeOf q)
 pairOf Neither = apart
 
+-- the answer for three rows: Ranges is a range for each, Over is none
 abbrev pub givenOf : Given → Option Three
 givenOf (Ranges p q r) = just (rangeOf p, (rangeOf q, rangeOf r))
 givenOf Over = apart
 
--- the item that three ranges make
+-- the item of a category that three ranges make
 abbrev pub itemFrom : ℕ → Three → Item
 itemFrom A p = record { category = A; one = p .0; two = p .1 .0; three = p .1 .1 }

@@ -36,6 +36,7 @@ unfoldable pub site : List ℕ → (ℕ → ℕ → Range) → ℕ → ℕ → S
 site ws e start to (word w) = wordHere ws w (after start to)
 site ws e start to (part k c) = partHere ws (e k c)
 
+-- go on with what there is, if there is something
 abbrev pub andThen : {A B : Type 0} → Option A → (A → Option B) → Option B
 andThen apart f = apart
 andThen (just a) f = f a

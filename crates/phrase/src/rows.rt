@@ -6,7 +6,7 @@ ghost use Rattle.meaning.specs.Range as range;
 ghost use Rattle.meaning.specs.Table.{number};
 ghost use Rattle.meaning.specs.Decode.{rowEnd, rowAt, symbolAt};
 ghost use Rattle.phrase.specs.Row as row;
-ghost use Rattle.phrase.specs.Phrase.{rangeOf, joinOf, startsOf, heldOf, symbolsOf, rowOf, EndsIn, RuleOf, Decides, Has, Next, StartsAt, startOf};
+ghost use Rattle.phrase.specs.Phrase.{rangeOf, joinOf, startsOf, heldOf, symbolsOf, EndsIn, RuleOf, RowIs, Decides, Has, Next, StartsAt, startOf};
 use crate::items::Daughters;
 use crate::items::held;
 use crate::ranges::Join;
@@ -26,15 +26,15 @@ pub enum Row {
 }
 
 // Where a row can start: from first up to but not including end.
-pub struct Starts {
-    pub first: usize,
-    pub end: usize,
+struct Starts {
+    first: usize,
+    end: usize,
 }
 
 // Row i of the rule at a place, from 0.
 pub fn row_of(table: &[u8], rule: usize, i: usize) -> Row
     requires { ⌜ RuleOf (now table) rule ⌝ }
-    ensures { λ r. ⌜ (symbolsOf (now (table .entry)) r ≡ rowOf (now (table .entry)) rule i) × EndsIn (now (table .entry)) r ⌝ }
+    ensures { λ r. ⌜ RowIs (now (table .entry)) rule i r ⌝ }
 {
     let third = rule + 2;
     let fourth = rule + 3;
@@ -69,10 +69,10 @@ fn word(words: &[u16], w: u16, at: usize) -> Join
     if words.len() <= at {
         return Join::Apart;
     }
+    let next = at + 1;
     if words[at] != w {
         return Join::Apart;
     }
-    let next = at + 1;
     Join::Joined(Range { from: at, to: next })
 }
 
@@ -120,7 +120,7 @@ fn site(table: &[u8], at: usize, words: &[u16], d: Daughters, start: usize, to: 
 }
 
 // What the row makes, where its first word stands at the start.
-pub fn row_from(table: &[u8], place: usize, words: &[u16], d: Daughters, start: usize) -> Join
+fn row_from(table: &[u8], place: usize, words: &[u16], d: Daughters, start: usize) -> Join
     requires { ⌜ rowEnd (now table) place ≤ length (now table) ⌝ }
     ensures { λ r. ⌜ joinOf r ≡ row.eval (now (words .entry)) (heldOf d) start range.none (rowAt (now (table .entry)) place) ⌝ }
 {
@@ -142,7 +142,7 @@ pub fn row_from(table: &[u8], place: usize, words: &[u16], d: Daughters, start: 
 }
 
 // Where the row can start: where its first part that is not empty stands; anywhere if a word comes first; at 0 if it is empty.
-pub fn row_starts(table: &[u8], place: usize, words: &[u16], d: Daughters) -> Starts
+fn row_starts(table: &[u8], place: usize, words: &[u16], d: Daughters) -> Starts
     requires { ⌜ rowEnd (now table) place ≤ length (now table) ⌝ }
     ensures { λ r. ⌜ startsOf r ≡ row.starts (now (words .entry)) (heldOf d) (rowAt (now (table .entry)) place) ⌝ }
 {
@@ -171,7 +171,7 @@ pub fn row_starts(table: &[u8], place: usize, words: &[u16], d: Daughters) -> St
 }
 
 // Whether the row can have this range with these daughters.
-pub fn row_fits(table: &[u8], row: Row, words: &[u16], d: Daughters, r: Range) -> bool
+pub(crate) fn row_fits(table: &[u8], row: Row, words: &[u16], d: Daughters, r: Range) -> bool
     requires { ⌜ EndsIn (now table) row ⌝ }
     ensures { λ b. ⌜ Decides (Has (now (words .entry)) d (symbolsOf (now (table .entry)) row) (rangeOf r)) b ⌝ }
 {
@@ -209,7 +209,7 @@ fn later(a: usize, b: usize) -> usize
 }
 
 // The first range that the row can have from a place on.
-pub fn row_next(table: &[u8], row: Row, words: &[u16], d: Daughters, from: usize) -> Join
+pub(crate) fn row_next(table: &[u8], row: Row, words: &[u16], d: Daughters, from: usize) -> Join
     requires { ⌜ EndsIn (now table) row ⌝ }
     ensures { λ r. ⌜ Next startOf (Has (now (words .entry)) d (symbolsOf (now (table .entry)) row)) from (joinOf r) ⌝ }
 {

@@ -9,8 +9,8 @@ use Rattle.meaning.specs.declared.Refusal.the-variants.{Category}
 use Rattle.meaning.specs.Table.{Got, got, refused, _>>=_, times, any, outside, byte, category, Used, rankOf, daughterOf, dimensionOf}
 use Rattle.meaning.specs.Accepted.{Dims, Headed}
 use Rattle.meaning.proofs.Fields.{inside, limited-there, times-there}
-use Rattle.table.specs.declared.Step.{Step}
-use Rattle.table.specs.declared.Step.the-variants.{Next, Refused}
+use Rattle.table.specs.declared.cursor.Step.{Step}
+use Rattle.table.specs.declared.cursor.Step.the-variants.{Next, Refused}
 use Rattle.table.specs.Views.{stepOf, stepWith, Small}
 
 -- a constituent that passed its tests lies within the marks

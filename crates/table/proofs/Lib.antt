@@ -1,3 +1,7 @@
 pub mod Laws
-pub mod Marks
+pub mod Uses
 pub mod Known
+pub mod Sentence
+pub mod Walks
+pub mod Ordering
+pub mod Once

@@ -18,7 +18,8 @@ byte-at-requires c κs = search needs
 returns : tie.Need-returns
 returns c =
     let b = c .before .before .before .before .before in
-    fails (λ g. c .if1 .taken (gives-kind (b .args .table .now) (b .args .rule) (b .pre) (b .args .d) (b .args .words .now) (b .args .x) g ∙ sym (c .before .before .byte-at .ensures .0)))
+    let byte-at = c .before .before .byte-at in
+    fails (λ g. c .if1 .taken (gives-kind (b .args .table .now) (b .args .rule) (b .pre) (b .args .d) (b .args .words .now) (b .args .x) g ∙ sym (byte-at .ensures .0)))
 
 kinds-requires : tie.Need-kinds-requires
 kinds-requires c κs = search needs
@@ -47,12 +48,20 @@ returns-5 c = fails (λ g. said-no (c .before .range-fits3 .ensures) (not-true _
 returns-6 : tie.Need-returns-6
 returns-6 c =
     let b = c .before .before .before .before .before .before .before .before .before .before .before .before .before in
+    let byte-at = c .before .before .before .before .before .before .before .before .before .before .byte-at in
+    let if1 = c .before .before .before .before .before .before .before .before .if1 in
+    let kinds = c .before .before .before .before .before .before .before .kinds in
+    let if2 = c .before .before .before .before .before .before .if2 in
+    let range-fits = c .before .before .before .before .before .range-fits in
+    let if3 = c .before .before .before .before .if3 in
+    let range-fits2 = c .before .before .before .range-fits2 in
+    let if4 = c .before .before .if4 in
     holds (
     give (b .args .table .now) (b .args .rule) (b .pre) (b .args .d) (b .args .words .now) (b .args .x)
-    (c .before .before .before .before .before .before .before .before .if1 .left ∙ c .before .before .before .before .before .before .before .before .before .before .byte-at .ensures .0)
-    (said-yes (c .before .before .before .before .before .before .before .kinds .ensures) (not-false _ (c .before .before .before .before .before .before .if2 .left)))
-    (said-yes (c .before .before .before .before .before .range-fits .ensures) (not-false _ (c .before .before .before .before .if3 .left)))
-    (said-yes (c .before .before .before .range-fits2 .ensures) (not-false _ (c .before .before .if4 .left)))
+    (if1 .left ∙ byte-at .ensures .0)
+    (said-yes (kinds .ensures) (not-false _ (if2 .left)))
+    (said-yes (range-fits .ensures) (not-false _ (if3 .left)))
+    (said-yes (range-fits2 .ensures) (not-false _ (if4 .left)))
     (said-yes (c .before .range-fits3 .ensures) (not-false _ (c .if5 .left)))
     )
 

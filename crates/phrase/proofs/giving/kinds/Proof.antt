@@ -22,7 +22,9 @@ size-requires c κs = search needs
 returns : tie.Need-returns
 returns c =
     let b = c .before .before .before .before .before in
-    fails (kinds-no (b .args .table .now) (b .args .rule) (b .pre) (b .args .d) _ _ (c .before .before .before .few .ensures) (c .before .size .ensures ∙ c .before .before .byte-at .ensures .0) (c .if1 .taken))
+    let few = c .before .before .before .few in
+    let byte-at = c .before .before .byte-at in
+    fails (kinds-no (b .args .table .now) (b .args .rule) (b .pre) (b .args .d) _ _ (few .ensures) (c .before .size .ensures ∙ byte-at .ensures .0) (c .if1 .taken))
 
 kind-at-requires : tie.Need-kind-at-requires
 kind-at-requires c κs = search needs
@@ -33,7 +35,8 @@ wanted-at-requires c κs = search needs
 returns-2 : tie.Need-returns-2
 returns-2 c =
     let b = c .before .before .before .before .before .before .before .before in
-    fails (kind-no (b .args .table .now) (b .args .rule) (b .pre) (b .args .d) 0 _ _ (c .before .before .kind-at .ensures) (c .before .wanted-at .ensures) (c .if2 .taken))
+    let kind-at = c .before .before .kind-at in
+    fails (kind-no (b .args .table .now) (b .args .rule) (b .pre) (b .args .d) 0 _ _ (kind-at .ensures) (c .before .wanted-at .ensures) (c .if2 .taken))
 
 kind-at-requires-2 : tie.Need-kind-at-requires-2
 kind-at-requires-2 c κs = search needs
@@ -44,7 +47,8 @@ wanted-at-requires-2 c κs = search needs
 returns-3 : tie.Need-returns-3
 returns-3 c =
     let b = c .before .before .before .before .before .before .before .before .before .before .before in
-    fails (kind-no (b .args .table .now) (b .args .rule) (b .pre) (b .args .d) 1 _ _ (c .before .before .kind-at2 .ensures) (c .before .wanted-at2 .ensures) (c .if3 .taken))
+    let kind-at2 = c .before .before .kind-at2 in
+    fails (kind-no (b .args .table .now) (b .args .rule) (b .pre) (b .args .d) 1 _ _ (kind-at2 .ensures) (c .before .wanted-at2 .ensures) (c .if3 .taken))
 
 kind-at-requires-3 : tie.Need-kind-at-requires-3
 kind-at-requires-3 c κs = search needs
@@ -55,16 +59,28 @@ wanted-at-requires-3 c κs = search needs
 returns-4 : tie.Need-returns-4
 returns-4 c =
     let b = c .before .before .before .before .before .before .before .before .before .before .before .before .before .before in
-    fails (kind-no (b .args .table .now) (b .args .rule) (b .pre) (b .args .d) 2 _ _ (c .before .before .kind-at3 .ensures) (c .before .wanted-at3 .ensures) (c .if4 .taken))
+    let kind-at3 = c .before .before .kind-at3 in
+    fails (kind-no (b .args .table .now) (b .args .rule) (b .pre) (b .args .d) 2 _ _ (kind-at3 .ensures) (c .before .wanted-at3 .ensures) (c .if4 .taken))
 
 returns-5 : tie.Need-returns-5
 returns-5 c =
     let b = c .before .before .before .before .before .before .before .before .before .before .before .before .before .before in
+    let few = c .before .before .before .before .before .before .before .before .before .before .before .before .few in
+    let byte-at = c .before .before .before .before .before .before .before .before .before .before .before .byte-at in
+    let size = c .before .before .before .before .before .before .before .before .before .before .size in
+    let if1 = c .before .before .before .before .before .before .before .before .before .if1 in
+    let kind-at = c .before .before .before .before .before .before .before .before .kind-at in
+    let wanted-at = c .before .before .before .before .before .before .before .wanted-at in
+    let if2 = c .before .before .before .before .before .before .if2 in
+    let kind-at2 = c .before .before .before .before .before .kind-at2 in
+    let wanted-at2 = c .before .before .before .before .wanted-at2 in
+    let if3 = c .before .before .before .if3 in
+    let kind-at3 = c .before .before .kind-at3 in
     holds (
-    kinds-yes (b .args .table .now) (b .args .rule) (b .pre) (b .args .d) _ _ (c .before .before .before .before .before .before .before .before .before .before .before .before .few .ensures) (c .before .before .before .before .before .before .before .before .before .before .size .ensures ∙ c .before .before .before .before .before .before .before .before .before .before .before .byte-at .ensures .0) (c .before .before .before .before .before .before .before .before .before .if1 .left)
-    (sym (c .before .before .before .before .before .before .before .before .kind-at .ensures) ∙ c .before .before .before .before .before .before .if2 .left ∙ c .before .before .before .before .before .before .before .wanted-at .ensures)
-    (sym (c .before .before .before .before .before .kind-at2 .ensures) ∙ c .before .before .before .if3 .left ∙ c .before .before .before .before .wanted-at2 .ensures)
-    (sym (c .before .before .kind-at3 .ensures) ∙ c .if4 .left ∙ c .before .wanted-at3 .ensures)
+    kinds-yes (b .args .table .now) (b .args .rule) (b .pre) (b .args .d) _ _ (few .ensures) (size .ensures ∙ byte-at .ensures .0) (if1 .left)
+    (sym (kind-at .ensures) ∙ if2 .left ∙ wanted-at .ensures)
+    (sym (kind-at2 .ensures) ∙ if3 .left ∙ wanted-at2 .ensures)
+    (sym (kind-at3 .ensures) ∙ c .if4 .left ∙ c .before .wanted-at3 .ensures)
     )
 
 pub kinds-spec : {M : Type 1} → statement M

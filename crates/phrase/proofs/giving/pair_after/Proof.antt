@@ -18,9 +18,11 @@ enum-told c = search needs
 
 returns : tie.Need-returns
 returns c =
-    let a = c .before .before .before .before .before .args in
-    let k = two-keyed (a .words .now) (a .d) (c .before .before .before .before .before .pre .2) (symbolsOf (a .table .now) (a .one)) (symbolsOf (a .table .now) (a .two)) in
-    none-first k _ 0 refl (c .before .before .row-next .ensures) (ap joinOf (c .enum-told .given .1))
+    let b = c .before .before .before .before .before in
+    let a = b .args in
+    let row-next = c .before .before .row-next in
+    let k = two-keyed (a .words .now) (a .d) (b .pre .2) (symbolsOf (a .table .now) (a .one)) (symbolsOf (a .table .now) (a .two)) in
+    none-first k _ 0 refl (row-next .ensures) (ap joinOf (c .enum-told .given .1))
 
 row-next-requires-2 : tie.Need-row-next-requires-2
 row-next-requires-2 c κs = search needs
@@ -33,15 +35,21 @@ enum-told-2 c = search needs
 
 returns-2 : tie.Need-returns-2
 returns-2 c =
-    let a = c .before .before .before .before .before .before .before .before .before .args in
-    let k = two-keyed (a .words .now) (a .d) (c .before .before .before .before .before .before .before .before .before .pre .2) (symbolsOf (a .table .now) (a .one)) (symbolsOf (a .table .now) (a .two)) in
-    none-second k _ refl (c .before .before .row-next2 .ensures) (ap joinOf (c .enum-told2 .given .1))
+    let b = c .before .before .before .before .before .before .before .before .before in
+    let a = b .args in
+    let row-next2 = c .before .before .row-next2 in
+    let k = two-keyed (a .words .now) (a .d) (b .pre .2) (symbolsOf (a .table .now) (a .one)) (symbolsOf (a .table .now) (a .two)) in
+    none-second k _ refl (row-next2 .ensures) (ap joinOf (c .enum-told2 .given .1))
 
 returns-3 : tie.Need-returns-3
 returns-3 c =
-    let a = c .before .before .before .before .before .before .before .before .before .before .args in
-    let k = two-keyed (a .words .now) (a .d) (c .before .before .before .before .before .before .before .before .before .before .pre .2) (symbolsOf (a .table .now) (a .one)) (symbolsOf (a .table .now) (a .two)) in
-    both-first k (c .before .before .before .before .before .before .before .row-next .ensures) (ap joinOf (c .before .before .before .before .before .p .given .1)) (c .before .before .before .row-next2 .ensures) (ap joinOf (c .before .q .given .1))
+    let b = c .before .before .before .before .before .before .before .before .before .before in
+    let a = b .args in
+    let row-next = c .before .before .before .before .before .before .before .row-next in
+    let p = c .before .before .before .before .before .p in
+    let row-next2 = c .before .before .before .row-next2 in
+    let k = two-keyed (a .words .now) (a .d) (b .pre .2) (symbolsOf (a .table .now) (a .one)) (symbolsOf (a .table .now) (a .two)) in
+    both-first k (row-next .ensures) (ap joinOf (p .given .1)) (row-next2 .ensures) (ap joinOf (c .before .q .given .1))
 
 pub pair-after-spec : {M : Type 1} → statement M
 pair-after-spec =

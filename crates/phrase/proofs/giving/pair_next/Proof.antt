@@ -1,6 +1,6 @@
 -- `phrase::giving::pair_next` meets its contract: the number is the first row's start times 65 and the second's.
-use mathlib.Core.Path.{_≡_, ap}
-use Prim.Native.Nat.{_+_, _*_, _/_, _%_, _<_}
+use mathlib.Core.Path.{ap}
+use Prim.Native.Nat.{_/_, _%_}
 use native.Mathlib.Omega.{arith}
 use borrow.Author.Needs.{needs}
 use Rattle.phrase.specs.Phrase.{joinOf, symbolsOf}
@@ -20,9 +20,11 @@ enum-told c = search needs
 
 returns : tie.Need-returns
 returns c =
-    let a = c .before .before .before .before .before .args in
-    let k = two-keyed (a .words .now) (a .d) (c .before .before .before .before .before .pre .2) (symbolsOf (a .table .now) (a .one)) (symbolsOf (a .table .now) (a .two)) in
-    none-first k (a .n / 65) (a .n % 65) (omega arith) (c .before .before .row-next .ensures) (ap joinOf (c .enum-told .given .1))
+    let b = c .before .before .before .before .before in
+    let a = b .args in
+    let row-next = c .before .before .row-next in
+    let k = two-keyed (a .words .now) (a .d) (b .pre .2) (symbolsOf (a .table .now) (a .one)) (symbolsOf (a .table .now) (a .two)) in
+    none-first k (a .n / 65) (a .n % 65) (omega arith) (row-next .ensures) (ap joinOf (c .enum-told .given .1))
 
 onward-requires : tie.Need-onward-requires
 onward-requires c κs = search needs
@@ -38,9 +40,11 @@ enum-told-2 c = search needs
 
 returns-2 : tie.Need-returns-2
 returns-2 c =
-    let a = c .before .before .before .before .before .before .before .before .before .before .before .args in
-    let k = two-keyed (a .words .now) (a .d) (c .before .before .before .before .before .before .before .before .before .before .before .pre .2) (symbolsOf (a .table .now) (a .one)) (symbolsOf (a .table .now) (a .two)) in
-    none-second k _ (c .if1 .taken) (c .before .before .before .row-next2 .ensures) (ap joinOf (c .before .enum-told2 .given .1))
+    let b = c .before .before .before .before .before .before .before .before .before .before .before in
+    let a = b .args in
+    let row-next2 = c .before .before .before .row-next2 in
+    let k = two-keyed (a .words .now) (a .d) (b .pre .2) (symbolsOf (a .table .now) (a .one)) (symbolsOf (a .table .now) (a .two)) in
+    none-second k _ (c .if1 .taken) (row-next2 .ensures) (ap joinOf (c .before .enum-told2 .given .1))
 
 add-next : tie.Need-add-next
 add-next c = search needs
@@ -50,16 +54,27 @@ pair-after-requires c κs = search needs
 
 returns-3 : tie.Need-returns-3
 returns-3 c =
-    let a = c .before .before .before .before .before .before .before .before .before .before .before .before .args in
-    let k = two-keyed (a .words .now) (a .d) (c .before .before .before .before .before .before .before .before .before .before .before .before .pre .2) (symbolsOf (a .table .now) (a .one)) (symbolsOf (a .table .now) (a .two)) in
-    both-step k (a .n / 65) (a .n % 65) (omega arith) (omega arith) (c .before .before .before .before .before .before .before .before .before .row-next .ensures) (ap joinOf (c .before .before .before .before .before .before .before .p .given .1)) (c .before .before .before .before .before .onward .ensures) (c .before .before .before .before .row-next2 .ensures)
-    (ap joinOf (c .before .before .enum-told2 .given .1)) (c .before .if1 .left) (c .pair-after .ensures)
+    let b = c .before .before .before .before .before .before .before .before .before .before .before .before in
+    let a = b .args in
+    let row-next = c .before .before .before .before .before .before .before .before .before .row-next in
+    let p = c .before .before .before .before .before .before .before .p in
+    let onward = c .before .before .before .before .before .onward in
+    let row-next2 = c .before .before .before .before .row-next2 in
+    let enum-told2 = c .before .before .enum-told2 in
+    let k = two-keyed (a .words .now) (a .d) (b .pre .2) (symbolsOf (a .table .now) (a .one)) (symbolsOf (a .table .now) (a .two)) in
+    both-step k (a .n / 65) (a .n % 65) (omega arith) (omega arith) (row-next .ensures) (ap joinOf (p .given .1)) (onward .ensures) (row-next2 .ensures)
+    (ap joinOf (enum-told2 .given .1)) (c .before .if1 .left) (c .pair-after .ensures)
 
 returns-4 : tie.Need-returns-4
 returns-4 c =
-    let a = c .before .before .before .before .before .before .before .before .before .before .before .args in
-    let k = two-keyed (a .words .now) (a .d) (c .before .before .before .before .before .before .before .before .before .before .before .pre .2) (symbolsOf (a .table .now) (a .one)) (symbolsOf (a .table .now) (a .two)) in
-    both-on k (a .n / 65) (a .n % 65) (omega arith) (omega arith) (c .before .before .before .before .before .before .before .before .row-next .ensures) (ap joinOf (c .before .before .before .before .before .before .p .given .1)) (c .before .before .before .before .onward .ensures) (c .before .before .before .row-next2 .ensures)
+    let b = c .before .before .before .before .before .before .before .before .before .before .before in
+    let a = b .args in
+    let row-next = c .before .before .before .before .before .before .before .before .row-next in
+    let p = c .before .before .before .before .before .before .p in
+    let onward = c .before .before .before .before .onward in
+    let row-next2 = c .before .before .before .row-next2 in
+    let k = two-keyed (a .words .now) (a .d) (b .pre .2) (symbolsOf (a .table .now) (a .one)) (symbolsOf (a .table .now) (a .two)) in
+    both-on k (a .n / 65) (a .n % 65) (omega arith) (omega arith) (row-next .ensures) (ap joinOf (p .given .1)) (onward .ensures) (row-next2 .ensures)
     (ap joinOf (c .before .q .given .1))
 
 pub pair-next-spec : {M : Type 1} → statement M

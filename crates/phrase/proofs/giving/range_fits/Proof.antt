@@ -13,7 +13,7 @@ row-fits-requires : tie.Need-row-fits-requires
 row-fits-requires c κs = search needs
 
 returns : tie.Need-returns
-returns c = rw (← c .before .before .row-of .ensures .0, ← c .before .range-at .ensures .0) (c .row-fits .ensures)
+returns c = rw (← c .before .before .row-of .ensures .symbols, ← c .before .range-at .ensures .0) (c .row-fits .ensures)
 
 pub range-fits-spec : {M : Type 1} → statement M
 range-fits-spec = tie.close (tie.spec row-of-requires range-at-requires row-fits-requires returns)

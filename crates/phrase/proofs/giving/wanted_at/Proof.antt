@@ -34,7 +34,9 @@ byte-at-requires-2 c κs = search needs
 returns-2 : tie.Need-returns-2
 returns-2 c =
     let b = c .before .before .before .before .before in
-    c .byte-at2 .ensures .0 ∙ wanted-there (b .args .table .now) (b .args .rule) (b .pre) _ (omega (arith, c .before .before .size .ensures, c .before .before .before .byte-at .ensures .0))
+    let byte-at = c .before .before .before .byte-at in
+    let size = c .before .before .size in
+    c .byte-at2 .ensures .0 ∙ wanted-there (b .args .table .now) (b .args .rule) (b .pre) _ (omega (arith, size .ensures, byte-at .ensures .0))
 
 pub wanted-at-spec : {M : Type 1} → statement M
 wanted-at-spec =

@@ -16,10 +16,17 @@ returns-2 : tie.Need-returns-2
 returns-2 c = simp (told (c .before .before .before .is-none .ensures) (c .before .before .if1 .left), le-ltb _ _ (c .if2 .taken))
 
 returns-3 : tie.Need-returns-3
-returns-3 c = simp (told (c .before .before .before .before .before .is-none .ensures) (c .before .before .before .before .if1 .left), lt-leb _ _ (c .if3 .taken), and-false)
+returns-3 c =
+    let is-none = c .before .before .before .before .before .is-none in
+    let if1 = c .before .before .before .before .if1 in
+    simp (told (is-none .ensures) (if1 .left), lt-leb _ _ (c .if3 .taken), and-false)
 
 returns-4 : tie.Need-returns-4
-returns-4 c = simp (told (c .before .before .before .before .before .is-none .ensures) (c .before .before .before .before .if1 .left), lt-ltb _ _ (c .before .before .if2 .left), le-leb _ _ (c .if3 .left))
+returns-4 c =
+    let is-none = c .before .before .before .before .before .is-none in
+    let if1 = c .before .before .before .before .if1 in
+    let if2 = c .before .before .if2 in
+    simp (told (is-none .ensures) (if1 .left), lt-ltb _ _ (if2 .left), le-leb _ _ (c .if3 .left))
 
 pub is-range-spec : {M : Type 1} → statement M
 is-range-spec = tie.close (tie.spec is-none-requires returns returns-2 returns-3 returns-4)

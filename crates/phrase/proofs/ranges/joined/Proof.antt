@@ -18,15 +18,28 @@ is-none-requires-2 c κs = search needs
 
 returns-2 : tie.Need-returns-2
 unfolding joined
-returns-2 c = simp (told (c .before .before .before .is-none .ensures) (c .before .before .if1 .left), told (c .before .is-none2 .ensures) (c .if2 .taken))
+returns-2 c =
+    let is-none = c .before .before .before .is-none in
+    let if1 = c .before .before .if1 in
+    simp (told (is-none .ensures) (if1 .left), told (c .before .is-none2 .ensures) (c .if2 .taken))
 
 returns-3 : tie.Need-returns-3
 unfolding joined
-returns-3 c = simp (told (c .before .before .before .before .before .before .is-none .ensures) (c .before .before .before .before .before .if1 .left), told (c .before .before .before .before .is-none2 .ensures) (c .before .before .before .if2 .left), eq-eqb _ _ (c .if3 .taken))
+returns-3 c =
+    let is-none = c .before .before .before .before .before .before .is-none in
+    let if1 = c .before .before .before .before .before .if1 in
+    let is-none2 = c .before .before .before .before .is-none2 in
+    let if2 = c .before .before .before .if2 in
+    simp (told (is-none .ensures) (if1 .left), told (is-none2 .ensures) (if2 .left), eq-eqb _ _ (c .if3 .taken))
 
 returns-4 : tie.Need-returns-4
 unfolding joined
-returns-4 c = simp (told (c .before .before .before .before .before .before .is-none .ensures) (c .before .before .before .before .before .if1 .left), told (c .before .before .before .before .is-none2 .ensures) (c .before .before .before .if2 .left), ne-eqb _ _ (c .if3 .left))
+returns-4 c =
+    let is-none = c .before .before .before .before .before .before .is-none in
+    let if1 = c .before .before .before .before .before .if1 in
+    let is-none2 = c .before .before .before .before .is-none2 in
+    let if2 = c .before .before .before .if2 in
+    simp (told (is-none .ensures) (if1 .left), told (is-none2 .ensures) (if2 .left), ne-eqb _ _ (c .if3 .left))
 
 pub joined-spec : {M : Type 1} → statement M
 joined-spec =

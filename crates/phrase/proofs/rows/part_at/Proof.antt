@@ -26,8 +26,12 @@ held-requires c κs = search needs
 
 returns : tie.Need-returns
 returns c =
-    let a = c .before .before .before .before .before .before .args in (
-      c .held .ensures .0 ∙ named-is (a .table .now) (heldOf (a .d)) (a .at) (c .before .before .before .before .byte-at .ensures .0) (c .before .before .before .number-at .ensures) (c .before .before .less .ensures) (c .before .less2 .ensures),
+    let b = c .before .before .before .before .before .before in
+    let byte-at = c .before .before .before .before .byte-at in
+    let number-at = c .before .before .before .number-at in
+    let less = c .before .before .less in
+    let a = b .args in (
+      c .held .ensures .0 ∙ named-is (a .table .now) (heldOf (a .d)) (a .at) (byte-at .ensures .0) (number-at .ensures) (less .ensures) (c .before .less2 .ensures),
       c .held .ensures .1,
     )
 

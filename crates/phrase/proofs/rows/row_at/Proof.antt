@@ -19,17 +19,22 @@ enum-told c = search needs
 returns : tie.Need-returns
 returns c =
     let a = c .before .before .before .before .before .args in
-    made-not (a .words .now) (a .d) (rowAt (a .table .now) (a .place)) (a .start) (knew joinOf (c .before .before .row-from .ensures) (c .enum-told .given .1))
+    let row-from = c .before .before .row-from in
+    made-not (a .words .now) (a .d) (rowAt (a .table .now) (a .place)) (a .start) (knew joinOf (row-from .ensures) (c .enum-told .given .1))
 
 returns-2 : tie.Need-returns-2
 returns-2 c =
     let a = c .before .before .before .before .before .before .before .before .args in
-    made-here (a .words .now) (a .d) (rowAt (a .table .now) (a .place)) (a .start) _ (knew joinOf (c .before .before .before .before .before .row-from .ensures) (c .before .before .before .p .given .1)) (c .if1 .taken)
+    let row-from = c .before .before .before .before .before .row-from in
+    let p = c .before .before .before .p in
+    made-here (a .words .now) (a .d) (rowAt (a .table .now) (a .place)) (a .start) _ (knew joinOf (row-from .ensures) (p .given .1)) (c .if1 .taken)
 
 returns-3 : tie.Need-returns-3
 returns-3 c =
     let a = c .before .before .before .before .before .before .before .before .args in
-    made-there (a .words .now) (a .d) (rowAt (a .table .now) (a .place)) (a .start) _ (knew joinOf (c .before .before .before .before .before .row-from .ensures) (c .before .before .before .p .given .1)) (c .if1 .left)
+    let row-from = c .before .before .before .before .before .row-from in
+    let p = c .before .before .before .p in
+    made-there (a .words .now) (a .d) (rowAt (a .table .now) (a .place)) (a .start) _ (knew joinOf (row-from .ensures) (p .given .1)) (c .if1 .left)
 
 pub row-at-spec : {M : Type 1} → statement M
 row-at-spec =

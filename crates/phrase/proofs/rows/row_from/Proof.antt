@@ -47,8 +47,10 @@ returns : tie.Need-returns Inv-loop μ-loop
 returns c =
     let a = c .before .before .before .before .before .before .before .before .args in
     let l = c .before .before .before .before .loop in
-    eval-off (a .table .now) (a .words .now) (heldOf (a .d)) (l .left) (l .at) (a .start) (rangeOf (l .a)) (c .before .before .before .loop-test .taken)
-    (knew joinOf (c .before .before .site .ensures) (c .enum-told .given .1)) ∙ l .inv .1
+    let loop-test = c .before .before .before .loop-test in
+    let site = c .before .before .site in
+    eval-off (a .table .now) (a .words .now) (heldOf (a .d)) (l .left) (l .at) (a .start) (rangeOf (l .a)) (loop-test .taken)
+    (knew joinOf (site .ensures) (c .enum-told .given .1)) ∙ l .inv .1
 
 joined-requires : tie.Need-joined-requires Inv-loop μ-loop
 joined-requires c κs = search needs
@@ -63,9 +65,13 @@ returns-2 : tie.Need-returns-2 Inv-loop μ-loop
 returns-2 c =
     let a = c .before .before .before .before .before .before .before .before .before .before .before .before .args in
     let l = c .before .before .before .before .before .before .before .before .loop in
-    eval-apart (a .table .now) (a .words .now) (heldOf (a .d)) (l .left) (l .at) (a .start) (rangeOf (l .a)) (c .before .before .before .before .before .before .before .loop-test .taken) _
-    (knew joinOf (c .before .before .before .before .before .before .site .ensures) (c .before .before .before .before .p .given .1))
-    (knew joinOf (c .before .before .joined .ensures) (c .enum-told2 .given .1)) ∙ l .inv .1
+    let loop-test = c .before .before .before .before .before .before .before .loop-test in
+    let site = c .before .before .before .before .before .before .site in
+    let p = c .before .before .before .before .p in
+    let joined = c .before .before .joined in
+    eval-apart (a .table .now) (a .words .now) (heldOf (a .d)) (l .left) (l .at) (a .start) (rangeOf (l .a)) (loop-test .taken) _
+    (knew joinOf (site .ensures) (p .given .1))
+    (knew joinOf (joined .ensures) (c .enum-told2 .given .1)) ∙ l .inv .1
 
 add-at-2 : tie.Need-add-at-2 Inv-loop μ-loop
 add-at-2 c = omega (arith, c .before .before .before .before .before .before .before .before .before .loop .inv .0)
@@ -79,11 +85,16 @@ loop-less c = omega arith
 loop-again : tie.Need-loop-again Inv-loop μ-loop
 loop-again c =
     let a = c .before .before .before .before .before .before .before .before .before .before .before .before .before .args in
-    let l = c .before .before .before .before .before .before .before .before .before .loop in (
+    let loop = c .before .before .before .before .before .before .before .before .before .loop in
+    let loop-test = c .before .before .before .before .before .before .before .before .loop-test in
+    let site = c .before .before .before .before .before .before .before .site in
+    let p = c .before .before .before .before .before .p in
+    let joined = c .before .before .before .joined in
+    let l = loop in (
       omega (arith, l .inv .0),
-      eval-on (a .table .now) (a .words .now) (heldOf (a .d)) (l .left) (l .at) (a .start) (rangeOf (l .a)) (c .before .before .before .before .before .before .before .before .loop-test .taken) _ _
-          (knew joinOf (c .before .before .before .before .before .before .before .site .ensures) (c .before .before .before .before .before .p .given .1))
-          (knew joinOf (c .before .before .before .joined .ensures) (c .before .b .given .1)) ∙ l .inv .1,
+      eval-on (a .table .now) (a .words .now) (heldOf (a .d)) (l .left) (l .at) (a .start) (rangeOf (l .a)) (loop-test .taken) _ _
+          (knew joinOf (site .ensures) (p .given .1))
+          (knew joinOf (joined .ensures) (c .before .b .given .1)) ∙ l .inv .1,
     )
 
 returns-3 : tie.Need-returns-3 Inv-loop μ-loop

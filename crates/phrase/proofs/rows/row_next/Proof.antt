@@ -27,10 +27,14 @@ enum-told : tie.Need-enum-told Inv-loop μ-loop
 enum-told c = search needs
 
 returns : tie.Need-returns Inv-loop μ-loop
-returns c = let a = c .before .before .before .before .before .args in rw (c .before .enum-told .given .1) (empty-first (a .words .now) (a .d) (c .if1 .taken))
+returns c =
+    let b = c .before .before .before .before .before in
+    let a = b .args in rw (c .before .enum-told .given .1) (empty-first (a .words .now) (a .d) (c .if1 .taken))
 
 returns-2 : tie.Need-returns-2 Inv-loop μ-loop
-returns-2 c = let a = c .before .before .before .before .before .args in rw (c .before .enum-told .given .1) (empty-over (a .words .now) (a .d) (c .if1 .left))
+returns-2 c =
+    let b = c .before .before .before .before .before in
+    let a = b .args in rw (c .before .enum-told .given .1) (empty-over (a .words .now) (a .d) (c .if1 .left))
 
 row-starts-requires : tie.Need-row-starts-requires Inv-loop μ-loop
 row-starts-requires c κs = rw (c .before .row .given .1) at (c .before .before .before .before .before .pre)
@@ -57,9 +61,11 @@ enum-told-2 c = search needs
 returns-3 : tie.Need-returns-3 Inv-loop μ-loop
 returns-3 c =
     let a = c .before .before .before .before .before .before .before .before .before .before .before .before .args in
+    let row = c .before .before .before .before .before .before .before .before .row in
     let l = c .before .before .before .before .loop in
-    let P = Has (a .words .now) (a .d) (rowAt (a .table .now) (c .before .before .before .before .before .before .before .before .row .given .0 .0)) in
-    rw (c .before .before .before .before .before .before .before .before .row .given .1) (next-found P (a .from) (l .start) _ _ (ap joinOf (c .enum-told2 .given .1)) (l .inv .1) (l .inv .2) (c .before .before .row-at .ensures))
+    let row-at = c .before .before .row-at in
+    let P = Has (a .words .now) (a .d) (rowAt (a .table .now) (row .given .0 .0)) in
+    rw (row .given .1) (next-found P (a .from) (l .start) _ _ (ap joinOf (c .enum-told2 .given .1)) (l .inv .1) (l .inv .2) (row-at .ensures))
 
 enum-told-3 : tie.Need-enum-told-3 Inv-loop μ-loop
 enum-told-3 c = search needs
@@ -73,9 +79,11 @@ loop-less c = omega arith
 loop-again : tie.Need-loop-again Inv-loop μ-loop
 loop-again c =
     let a = c .before .before .before .before .before .before .before .before .before .before .before .before .args in
+    let row = c .before .before .before .before .before .before .before .before .row in
     let l = c .before .before .before .before .loop in
-    let P = Has (a .words .now) (a .d) (rowAt (a .table .now) (c .before .before .before .before .before .before .before .before .row .given .0 .0)) in
-    (l .inv .0, omega (arith, l .inv .1), next-on P (a .from) (l .start) _ (ap joinOf (c .enum-told3 .given .1)) (l .inv .2) (c .before .before .row-at .ensures), l .inv .3)
+    let row-at = c .before .before .row-at in
+    let P = Has (a .words .now) (a .d) (rowAt (a .table .now) (row .given .0 .0)) in
+    (l .inv .0, omega (arith, l .inv .1), next-on P (a .from) (l .start) _ (ap joinOf (c .enum-told3 .given .1)) (l .inv .2) (row-at .ensures), l .inv .3)
 
 returns-4 : tie.Need-returns-4 Inv-loop μ-loop
 returns-4 c =

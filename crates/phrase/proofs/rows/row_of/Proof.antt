@@ -1,13 +1,12 @@
 -- `phrase::rows::row_of` meets its contract. The loop's invariant: the row is there, and its place is so many rows on from here.
-use mathlib.Core.Path.{_≡_, ap, sym, _∙_, subst}
-use Prim.Native.Nat.{ℕ, _+_, _<_, _≤_}
-use lib.ListN.{length}
+use mathlib.Core.Path.{_≡_, _∙_}
+use Prim.Native.Nat.{_<_}
 use native.Mathlib.Omega.{arith}
 use borrow.Author.Needs.{needs}
-use Rattle.meaning.specs.Table.{byte, dimensionOf, categoryOf}
-use Rattle.meaning.specs.Decode.{past, rowAt, rowEnd, rowsOf}
+use Rattle.meaning.specs.Table.{dimensionOf, categoryOf}
+use Rattle.meaning.specs.Decode.{past, rowEnd, rowsOf}
 use Rattle.meaning.proofs.Places.{past-turn, past-none, past-next, rows-are, row-grows}
-use Rattle.phrase.proofs.RuleThere.{head-in, row-past, row-there, row-in, row-place-in}
+use Rattle.phrase.proofs.RuleThere.{head-in, row-past, row-at-place, row-place-in}
 use Rattle.phrase.proofs.rows.row_of.Statement.{statement}
 use Rattle.phrase.proofs.rows.row_of.Tie as tie
 
@@ -45,8 +44,11 @@ size-requires-2 c κs = search needs
 returns : tie.Need-returns Inv-loop μ-loop
 returns c =
     let b = c .before .before .before .before .before .before in
-    let h = simp (c .before .size2 .ensures, c .before .before .byte-at2 .ensures .0, c .before .before .before .size .ensures, c .before .before .before .before .byte-at .ensures .0) at (c .if1 .taken) in
-    (row-past (b .args .table .now) (b .args .rule) (b .pre) _ h, tt)
+    let byte-at = c .before .before .before .before .byte-at in
+    let size = c .before .before .before .size in
+    let byte-at2 = c .before .before .byte-at2 in
+    let h = simp (c .before .size2 .ensures, byte-at2 .ensures .0, size .ensures, byte-at .ensures .0) at (c .if1 .taken) in
+    row-past (b .args .table .now) (b .args .rule) (b .pre) _ h
 
 byte-at-requires-3 : tie.Need-byte-at-requires-3 Inv-loop μ-loop
 byte-at-requires-3 c κs = search needs
@@ -55,12 +57,19 @@ size-requires-3 : tie.Need-size-requires-3 Inv-loop μ-loop
 size-requires-3 c κs = search needs
 
 add-at : tie.Need-add-at Inv-loop μ-loop
-add-at c = omega (arith, head-in (c .before .before .before .before .before .before .before .before .args .table .now) (c .before .before .before .before .before .before .before .before .args .rule) (c .before .before .before .before .before .before .before .before .pre), c .size3 .ensures, c .before .byte-at3 .ensures .0)
+add-at c =
+    let b = c .before .before .before .before .before .before .before .before in
+    omega (arith, head-in (b .args .table .now) (b .args .rule) (b .pre), c .size3 .ensures, c .before .byte-at3 .ensures .0)
 
 loop-holds : tie.Need-loop-holds Inv-loop μ-loop
 loop-holds c =
     let a = c .before .before .before .before .before .before .before .before .args in
-    let h = simp (c .before .before .before .size2 .ensures, c .before .before .before .before .byte-at2 .ensures .0, c .before .before .before .before .before .size .ensures, c .before .before .before .before .before .before .byte-at .ensures .0) at (c .before .before .if1 .left) in
+    let byte-at = c .before .before .before .before .before .before .byte-at in
+    let size = c .before .before .before .before .before .size in
+    let byte-at2 = c .before .before .before .before .byte-at2 in
+    let size2 = c .before .before .before .size2 in
+    let if1 = c .before .before .if1 in
+    let h = simp (size2 .ensures, byte-at2 .ensures .0, size .ensures, byte-at .ensures .0) at (if1 .left) in
     (h, simp (c .size3 .ensures, c .before .byte-at3 .ensures .0, rows-are (a .table .now) (a .rule)))
 
 row-end-requires : tie.Need-row-end-requires Inv-loop μ-loop
@@ -82,12 +91,8 @@ loop-again c = let l = c .before .before .loop in (l .inv .0, rw (c .row-end .en
 returns-2 : tie.Need-returns-2 Inv-loop μ-loop
 returns-2 c =
     let b = c .before .before .before .before .before .before .before .before .before .before in
-    let t = b .args .table .now in
     let l = c .before .loop in
-    let e : past (b .args .i) (rowEnd t) (rowsOf t (b .args .rule)) ≡ l .at = l .inv .1 ∙ past-none _ _ _ (omega arith) in (
-      ap (rowAt t) (sym e) ∙ row-there t (b .args .rule) (b .pre) _ (l .inv .0),
-      subst (λ (p : ℕ). rowEnd t p ≤ length t) e (row-in t (b .args .rule) (b .pre) _ (l .inv .0)),
-    )
+    row-at-place (b .args .table .now) (b .args .rule) (b .pre) _ (l .inv .0) (l .inv .1 ∙ past-none _ _ _ (omega arith))
 
 pub row-of-spec : {M : Type 1} → statement M
 row-of-spec =

@@ -52,8 +52,12 @@ returns-2 : tie.Need-returns-2 Inv-loop μ-loop
 returns-2 c =
     let a = c .before .before .before .before .before .before .before .before .before .before .args in
     let l = c .before .before .before .before .before .before .loop in
-    starts-part (a .table .now) (a .words .now) (heldOf (a .d)) (l .left) (l .at) (c .before .before .before .before .before .loop-test .taken) (rangeOf (c .before .before .part-at .result))
-    (λ q. c .before .before .before .if1 .left (c .before .before .before .before .byte-at2 .ensures .0 ∙ q)) (c .before .before .part-at .ensures .0) (c .if2 .taken) ∙ l .inv .1
+    let loop-test = c .before .before .before .before .before .loop-test in
+    let byte-at2 = c .before .before .before .before .byte-at2 in
+    let if1 = c .before .before .before .if1 in
+    let part-at = c .before .before .part-at in
+    starts-part (a .table .now) (a .words .now) (heldOf (a .d)) (l .left) (l .at) (loop-test .taken) (rangeOf (part-at .result))
+    (λ q. if1 .left (byte-at2 .ensures .0 ∙ q)) (part-at .ensures .0) (c .if2 .taken) ∙ l .inv .1
 
 add-at-2 : tie.Need-add-at-2 Inv-loop μ-loop
 add-at-2 c = omega (arith, c .before .before .before .before .before .before .loop .inv .0)
@@ -67,10 +71,15 @@ loop-less c = omega arith
 loop-again : tie.Need-loop-again Inv-loop μ-loop
 loop-again c =
     let a = c .before .before .before .before .before .before .before .before .before .before .args in
-    let l = c .before .before .before .before .before .before .loop in (
+    let loop = c .before .before .before .before .before .before .loop in
+    let loop-test = c .before .before .before .before .before .loop-test in
+    let byte-at2 = c .before .before .before .before .byte-at2 in
+    let if1 = c .before .before .before .if1 in
+    let part-at = c .before .before .part-at in
+    let l = loop in (
       omega (arith, l .inv .0),
-      starts-on (a .table .now) (a .words .now) (heldOf (a .d)) (l .left) (l .at) (c .before .before .before .before .before .loop-test .taken) (rangeOf (c .before .before .part-at .result))
-          (λ q. c .before .before .before .if1 .left (c .before .before .before .before .byte-at2 .ensures .0 ∙ q)) (c .before .before .part-at .ensures .0) (c .if2 .left) ∙ l .inv .1,
+      starts-on (a .table .now) (a .words .now) (heldOf (a .d)) (l .left) (l .at) (loop-test .taken) (rangeOf (part-at .result))
+          (λ q. if1 .left (byte-at2 .ensures .0 ∙ q)) (part-at .ensures .0) (c .if2 .left) ∙ l .inv .1,
     )
 
 returns-3 : tie.Need-returns-3 Inv-loop μ-loop

@@ -25,8 +25,11 @@ word-requires c κs = search needs
 returns : tie.Need-returns
 returns c =
     let a = c .before .before .before .before .before .before .before .args in
-    c .word .ensures ∙ simp (c .before .after .ensures, c .before .before .number-at .ensures)
-    (site-word (a .table .now) (a .words .now) (heldOf (a .d)) (a .start) (a .to) (a .at) (sym (c .before .before .before .before .byte-at .ensures .0) ∙ c .before .before .before .if1 .taken))
+    let byte-at = c .before .before .before .before .byte-at in
+    let if1 = c .before .before .before .if1 in
+    let number-at = c .before .before .number-at in
+    c .word .ensures ∙ simp (c .before .after .ensures, number-at .ensures)
+    (site-word (a .table .now) (a .words .now) (heldOf (a .d)) (a .start) (a .to) (a .at) (sym (byte-at .ensures .0) ∙ if1 .taken))
 
 part-at-requires : tie.Need-part-at-requires
 part-at-requires c κs = search needs
@@ -37,8 +40,10 @@ part-requires c κs = search needs
 returns-2 : tie.Need-returns-2
 returns-2 c =
     let a = c .before .before .before .before .before .before .args in
+    let byte-at = c .before .before .before .byte-at in
+    let if1 = c .before .before .if1 in
     c .part .ensures ∙ ap (partHere (a .words .now)) (c .before .part-at .ensures .0)
-    ∙ site-part (a .table .now) (a .words .now) (heldOf (a .d)) (a .start) (a .to) (a .at) (λ q. c .before .before .if1 .left (c .before .before .before .byte-at .ensures .0 ∙ q))
+    ∙ site-part (a .table .now) (a .words .now) (heldOf (a .d)) (a .start) (a .to) (a .at) (λ q. if1 .left (byte-at .ensures .0 ∙ q))
 
 pub site-spec : {M : Type 1} → statement M
 site-spec =

@@ -8,6 +8,9 @@ use Rattle.phrase.proofs.rows.word.Tie as tie
 returns : tie.Need-returns
 returns c = simp (le-ltb _ _ (c .if1 .taken))
 
+add-next : tie.Need-add-next
+add-next c = search needs
+
 mul-if2 : tie.Need-mul-if2
 mul-if2 c = search needs
 
@@ -17,11 +20,8 @@ shared-slice-read-if2 c = search needs
 returns-2 : tie.Need-returns-2
 returns-2 c = simp (lt-ltb _ _ (c .before .before .if1 .left), ne-eqb _ _ (c .if2 .taken))
 
-add-next : tie.Need-add-next
-add-next c = search needs
-
 returns-3 : tie.Need-returns-3
 returns-3 c = simp (lt-ltb _ _ (c .before .before .if1 .left), eq-eqb _ _ (c .if2 .left), add-one)
 
 pub word-spec : {M : Type 1} → statement M
-word-spec = tie.close (tie.spec returns mul-if2 shared-slice-read-if2 returns-2 add-next returns-3)
+word-spec = tie.close (tie.spec returns add-next mul-if2 shared-slice-read-if2 returns-2 returns-3)

@@ -1,0 +1,13 @@
+-- Deep is never given
+pub mod Heights
+-- two tables that are checked alike, and what is then allowed for both
+pub mod Alike
+pub mod Windows
+pub mod Carry
+-- the first 40,000 bytes
+pub mod FirstBytes
+-- the order of rules
+pub mod Permutation
+pub mod Moved
+pub mod Blocks
+pub mod RuleOrder

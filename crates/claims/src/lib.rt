@@ -1,0 +1,1 @@
+// Theorems across calls: definitions in specs/, proofs in proofs/. This crate has no function.

@@ -1,0 +1,190 @@
+-- A level rule by rule: what all rules give from the known items is the level.
+use mathlib.Core.Path.{_≡_, refl, ap, sym, subst, _∙_}
+use mathlib.Core.Logic.{_⊎_, inl, inr, ⊎-elim}
+use mathlib.Core.List.{List, [], _∷_, map, List·Memᴰ as Mem}
+use Prim.Native.Nat.{ℕ, zero, suc, _+_, _*_, _%_, _<_, _≤_, _^_, max}
+use native.Mathlib.Omega.{arith}
+use lib.ListN.{length, getD, length-map}
+use Rattle.meaning.specs.Order.{Each, each-none, each-more, sorted-none}
+use Rattle.meaning.specs.Range.{Item}
+use Rattle.meaning.specs.Grammar.{Rule}
+use Rattle.meaning.specs.Giving.{Gives}
+use Rattle.meaning.specs.Chart.{Known, things, tallest, GivenBy, Made}
+use Rattle.meaning.specs.Table.{got, checkTable, byte, number, rankOf, categoryOf}
+use Rattle.meaning.specs.Decode.{past, several, ruleAt, ruleEnd, firstRule, grammarOf}
+use Rattle.meaning.proofs.Ends.{fine-table, past-suc}
+use Rattle.meaning.proofs.Decoded.{several-mem, several-length}
+use Rattle.store.specs.Set.{keyOf, heightOf}
+use Rattle.store.specs.Code.{unpacked, packed, knownOf}
+use Rattle.store.proofs.Laws.{lt-or-ge}
+use Rattle.store.proofs.Packing.{key-small, pack-unpack}
+use Rattle.phrase.specs.declared.items.Item.{Item as CodedItem}
+use Rattle.phrase.specs.declared.items.Daughters.{Daughters}
+use Rattle.phrase.specs.Phrase.{RuleOf}
+use Rattle.hint.specs.Hint.{seat, Open, heldAs, unknown, Partial, Completes, Does}
+use Rattle.search.specs.Level.{Ready, Filled}
+use Rattle.search.specs.Search.{keyed, Exact, Level}
+use Rattle.search.specs.Keys.{KeyMade, KeyGiven, Asked}
+use Rattle.search.specs.Tried.{In, Tried, Trying, opens, blankItem, noneOf, ByRules}
+use Rattle.search.proofs.Keys.{made-category, made-small}
+use Rattle.search.proofs.Filling.{goes-on, nothing-yet, then, stop, same}
+
+-- codes as known items
+knowns-of : List ℕ → List (Known Item)
+knowns-of cs = map knownOf cs
+
+same-things : (cs : List ℕ) → things (knowns-of cs) ≡ map unpacked (map keyOf cs)
+unfolding knowns-of
+same-things [] = refl
+same-things (c ∷ cs) = ap (λ (l : List Item). unpacked (keyOf c) ∷ l) (same-things cs)
+
+same-tallest : (cs : List ℕ) → tallest (knowns-of cs) ≡ tallest (map keyed cs)
+unfolding knowns-of tallest
+same-tallest [] = refl
+same-tallest (c ∷ cs) = ap (λ (n : ℕ). max (heightOf c) n) (same-tallest cs)
+
+all-in : {K : List ℕ} {cs : List ℕ} → Each (λ c. Mem c K) cs → Each (λ k. In k K) (knowns-of cs)
+unfolding knowns-of
+all-in each-none = each-none
+all-in (each-more {a = c} m ms) = each-more {a = knownOf c} (record { code = c; there = m; is = refl }) (all-in ms)
+
+in-all : {K : List ℕ} (ks : List (Known Item)) → Each (λ k. In k K) ks → (cs : List ℕ) × Each (λ c. Mem c K) cs × (knowns-of cs ≡ ks)
+unfolding knowns-of
+in-all [] each-none = ([], each-none, refl)
+in-all (k ∷ ks) (each-more i is) = let (cs, ms, e) = in-all ks is in let f = i .is in (i .code ∷ cs, each-more (i .there) ms, cc)
+
+-- none of them is chosen
+open-none : (n k : ℕ) → Open (noneOf n) k
+open-none n zero = refl
+open-none n (suc zero) = refl
+open-none n (suc (suc k)) = refl
+
+blank-none : (n k : ℕ) → seat (noneOf n) k .height ≡ 0
+blank-none n zero = refl
+blank-none n (suc zero) = refl
+blank-none n (suc (suc k)) = refl
+
+open-count : (n : ℕ) → n ≤ 3 → n ≡ opens (noneOf n)
+open-count zero h = refl
+open-count (suc zero) h = refl
+open-count (suc (suc zero)) h = refl
+open-count (suc (suc (suc zero))) h = refl
+open-count (suc (suc (suc (suc n)))) h = absurd (omega arith)
+
+daughters-many : (t : List ℕ) (p : ℕ) → length (ruleAt t p .daughters) ≡ rankOf t p
+unfolding ruleAt
+daughters-many t p = several-length (byte t) (λ p. p + 1) (rankOf t p) (p + 4)
+
+full-size : (t ws : List ℕ) (p : ℕ) (ks : List (Known Item)) {y : Item} → Gives (grammarOf t) ws (ruleAt t p) (things ks) y → length ks ≡ rankOf t p
+full-size t ws p ks g = sym (length-map ks _) ∙ sym (length-map (things ks) _) ∙ ap length (g .kinds) ∙ daughters-many t p
+
+module _ (t ws K : List ℕ) (h : ℕ) where
+  abbrev place : ℕ → ℕ
+  place i = past i (ruleEnd t) (firstRule t)
+
+  pub by-level : (n x : ℕ) → checkTable t ≡ got tt → ByRules t ws K h n x → n ≤ number t 7 → Level (KeyGiven t ws) K h x
+  unfolding KeyGiven GivenBy ruleAt
+  by-level n x e w l =
+      let (cs, ms, q) = in-all (w .tried .full) (w .tried .among) in
+      let g : Gives (grammarOf t) ws (ruleAt t (place (w .index))) (map unpacked (map keyOf cs)) (unpacked x) = rw (← same-things cs, q) (w .tried .does .gives) in
+      record {
+        function = number t (place (w .index));
+        codes = cs;
+        among = ms;
+        gives = (ruleAt t (place (w .index)), refl, g);
+        high = omega (arith, same-tallest cs, ap tallest q, w .tried .does .high);
+      }
+
+  pub level-by : (x : ℕ) → Level (KeyGiven t ws) K h x → ByRules t ws K h (number t 7) x
+  unfolding KeyGiven GivenBy grammarOf
+  level-by x w =
+      let (r, f, g) = w .gives in
+      let (i, l, q) = several-mem (ruleAt t) (ruleEnd t) (number t 7) (firstRule t) (g .known) in
+      let g′ : Gives (grammarOf t) ws (ruleAt t (place i)) (things (knowns-of (w .codes))) (unpacked x) = subst (λ (s : Rule). Gives (grammarOf t) ws s (things (knowns-of (w .codes))) (unpacked x)) q (rw (same-things (w .codes)) g) in
+      record {
+        index = i;
+        below = l;
+        tried = record {
+          full = knowns-of (w .codes);
+          completes = record { size = full-size t ws (place i) (knowns-of (w .codes)) g′; keeps = λ k h n. absurd (n (open-none (rankOf t (place i)) k)) };
+          among = all-in (w .among);
+          does = record { gives = g′; high = omega (arith, same-tallest (w .codes), w .high); same = λ n. absurd (n refl) };
+        };
+      }
+
+  -- what is known when a rule is tried from nothing
+  module _ (A : Asked t ws K h) where
+    codes-fine : (c : ℕ) → Mem c K → (1 ≤ knownOf c .item .category) × (c < 2 ^ 60)
+    unfolding KeyMade
+    codes-fine c m =
+        let r = A .exact .right c m .made in
+        let k = made-category t ws (A .accepted) (A .short) (unpacked (keyOf c)) (heightOf c) r in
+        let s = key-small (unpacked (keyOf c)) (made-small t ws (A .accepted) (A .short) (unpacked (keyOf c)) (heightOf c) r) in
+        (k .0, omega (arith, pack-unpack (keyOf c)))
+
+    pub rule-of : (i : ℕ) → i < number t 7 → RuleOf t (place i)
+    rule-of i l = record { accepted = A .accepted; index = i; below = l; there = refl }
+
+    pub trying-none : (i : ℕ) → i < number t 7 → Trying t ws (place i) (blankItem (h + 1)) (noneOf (rankOf t (place i))) K (rankOf t (place i))
+    trying-none i l = record {
+      there = rule-of i l;
+      short = A .short;
+      most = A .most;
+      any = refl;
+      low = omega arith;
+      high = omega (arith, A .low);
+      partial = record { few = few; past = λ k a b. open-none (rankOf t (place i)) k; blank = λ k a b. blank-none (rankOf t (place i)) k };
+      count = refl;
+      codes = codes-fine;
+      drawn = λ k a n. absurd (n (open-none (rankOf t (place i)) k));
+      fewer = open-count (rankOf t (place i)) few;
+    }
+      where
+        few : rankOf t (place i) ≤ 3
+        few = fine-table t (A .accepted) .rules i l .rank
+
+  -- rule by rule
+  module _ {a : List ℕ} where
+    pub rules-begin : Ready K (h + 1) a 0 → Filled K (h + 1) (ByRules t ws K h 0) a 0 a 0
+    rules-begin y = nothing-yet y (λ x w. omega (arith, w .below))
+
+    module _ {b : List ℕ} {m : ℕ} (i : ℕ) (w : Filled K (h + 1) (ByRules t ws K h i) a 0 b m) where
+      pub rules-end : checkTable t ≡ got tt → i ≡ number t 7 → Filled K (h + 1) (Level (KeyGiven t ws) K h) a 0 b m
+      rules-end e q = same w (λ x v. by-level i x e v (omega arith)) (λ x v. rw q (level-by x v))
+
+      module _ (fit : m ≤ length a) (len : length b ≡ length a) {c : List ℕ} {r : ℕ} (v : Filled K (h + 1) (Tried t ws (place i) (blankItem (h + 1)) (noneOf (rankOf t (place i))) K) b m c r) where
+        pub rules-turn : Filled K (h + 1) (ByRules t ws K h (i + 1)) a 0 c r
+        rules-turn = then w fit len v (λ x s. record { index = s .index; below = omega (arith, s .below); tried = s .tried }) (λ x s. record { index = i; below = omega arith; tried = s })
+            (λ x s. ⊎-elim (λ l. inl (record { index = s .index; below = l; tried = s .tried })) (λ g. inr (let e : s .index ≡ i = omega (arith, s .below) in subst (λ (j : ℕ). Tried t ws (place j) (blankItem (h + 1)) (noneOf (rankOf t (place j))) K x) e (s .tried))) (lt-or-ge (s .index) i))
+
+        pub rules-stop : checkTable t ≡ got tt → i < number t 7 → length a < r → Filled K (h + 1) (Level (KeyGiven t ws) K h) a 0 c r
+        rules-stop e l q = stop w fit len v q (λ x s. by-level i x e s (omega arith)) (λ x s. by-level (i + 1) x e (record { index = i; below = omega arith; tried = s }) (omega arith))
+
+pub ready-at : {K a : List ℕ} {n : ℕ} (h g : ℕ) → g ≡ h + 1 → Ready K (h + 1) a n → Ready K g a n
+ready-at {K} {a} {n} h g e y = subst (λ (z : ℕ). Ready K z a n) (sym e) y
+
+-- for the loop over the rules: the rule at hand is the i-th, and the height is one more
+module _ {t ws K : List ℕ} {h : ℕ} where
+  pub same-height : Asked t ws K h → (h + 1) % 65536 ≡ h + 1
+  same-height A = omega (arith, A .low)
+
+  pub ready-none : (a : List ℕ) → Asked t ws K h → Ready K (h + 1) a 0
+  ready-none a A = record { known = A .exact .sorted; sorted = sorted-none; count = omega arith; height = omega (arith, A .low) }
+
+  pub trying-at : Asked t ws K h → (i rule g : ℕ) → i < number t 7 → rule ≡ past i (ruleEnd t) (firstRule t) → g ≡ h + 1 → Trying t ws rule (blankItem g) (noneOf (rankOf t rule)) K (rankOf t rule)
+  trying-at A i rule g l e f = subst (λ (r : ℕ). Trying t ws r (blankItem g) (noneOf (rankOf t r)) K (rankOf t r)) (sym e) (subst (λ (z : ℕ). Trying t ws (past i (ruleEnd t) (firstRule t)) (blankItem z) (noneOf (rankOf t (past i (ruleEnd t) (firstRule t)))) K (rankOf t (past i (ruleEnd t) (firstRule t)))) (sym f) (trying-none t ws K h A i l))
+
+  pub rule-ends : Asked t ws K h → (i rule : ℕ) → i < number t 7 → rule ≡ past i (ruleEnd t) (firstRule t) → ruleEnd t rule ≤ length t
+  rule-ends A i rule l e = subst (λ (r : ℕ). ruleEnd t r ≤ length t) (sym e) (fine-table t (A .accepted) .rules i l .end)
+
+pub next-place : (t : List ℕ) (i rule r : ℕ) → rule ≡ past i (ruleEnd t) (firstRule t) → r ≡ ruleEnd t rule → r ≡ past (i + 1) (ruleEnd t) (firstRule t)
+next-place t i rule r e f = f ∙ ap (ruleEnd t) e ∙ sym (past-suc i (ruleEnd t) (firstRule t)) ∙ ap (λ (n : ℕ). past n (ruleEnd t) (firstRule t)) (omega arith)
+
+pub first-place : (t : List ℕ) (r : ℕ) → r ≡ firstRule t → r ≡ past 0 (ruleEnd t) (firstRule t)
+unfolding past
+first-place t r e = e
+
+pub tried-at : (t ws K : List ℕ) (h : ℕ) {b : List ℕ} {m : ℕ} {c : List ℕ} {q : ℕ} (i rule g : ℕ) → rule ≡ past i (ruleEnd t) (firstRule t) → g ≡ h + 1 → Filled K g (Tried t ws rule (blankItem g) (noneOf (rankOf t rule)) K) b m c q
+    → Filled K (h + 1) (Tried t ws (past i (ruleEnd t) (firstRule t)) (blankItem (h + 1)) (noneOf (rankOf t (past i (ruleEnd t) (firstRule t)))) K) b m c q
+tried-at t ws K h {b} {m} {c} {q} i rule g e f w = subst (λ (z : ℕ). Filled K z (Tried t ws (past i (ruleEnd t) (firstRule t)) (blankItem z) (noneOf (rankOf t (past i (ruleEnd t) (firstRule t)))) K) b m c q) f
+    (subst (λ (r : ℕ). Filled K g (Tried t ws r (blankItem g) (noneOf (rankOf t r)) K) b m c q) e w)

@@ -1,0 +1,5 @@
+pub mod Level
+pub mod Search
+pub mod Keys
+pub mod Spots
+pub mod Tried

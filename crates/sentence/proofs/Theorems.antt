@@ -1,0 +1,84 @@
+-- What the contract of `sentence` comes to: an answer 0 has written exactly the words of the one tree that the list is; every tree's list is
+-- so answered where it may be; a refusal writes nothing; and the answer is determined.
+use mathlib.Core.Path.{_≡_, refl, sym, ap, _∙_}
+use mathlib.Core.List.{List, _++_}
+use Prim.Native.Nat.{ℕ, _≤_}
+use native.Mathlib.Omega.{arith}
+use lib.ListN.{length, take, drop, length-append, length-drop}
+use lib.Seq.{take-at, drop-at}
+use Rattle.meaning.specs.declared.Refusal.{Refusal}
+use Rattle.meaning.specs.declared.Refusal.the-variants.{Short, Mark, Version, Range, Category, Function, Symbol, Twice, Missing, Start, Trailing, Long, Odd, ZeroWord}
+use Rattle.meaning.specs.Refusals as refusal
+use Rattle.meaning.specs.Grammar.{Tree, Of, functions}
+use Rattle.meaning.specs.Table.{got, checkTable}
+use Rattle.meaning.specs.Decode.{grammarOf}
+use Rattle.meaning.specs.SentenceWriting.{Reads, words, SentenceWritten, bad-table, too-many, wrong, no-room, wrote}
+use Rattle.meaning.proofs.Decoded.{valid-grammar}
+use Rattle.meaning.proofs.Walk.{one-tree}
+use Rattle.meaning.proofs.Determined.{Same, same-sentence}
+use Rattle.sentence.specs.declared.Answer.{Answer}
+use Rattle.sentence.specs.Answers.{codeOf, placeOf, countOf}
+
+refusal-code : (r : Refusal) → 2 ≤ refusal.codeOf r
+refusal-code (Short p) = omega arith
+refusal-code Mark = omega arith
+refusal-code Version = omega arith
+refusal-code (Range p) = omega arith
+refusal-code (Category p) = omega arith
+refusal-code (Function p) = omega arith
+refusal-code (Symbol p) = omega arith
+refusal-code (Twice p) = omega arith
+refusal-code (Missing p) = omega arith
+refusal-code (Start p) = omega arith
+refusal-code (Trailing p) = omega arith
+refusal-code Long = omega arith
+refusal-code (Odd p) = omega arith
+refusal-code (ZeroWord p) = omega arith
+
+-- n words stand at the front of the text after the call: those of the one tree that the list is; the rest is as lent
+pub record Spelled (table list before : List ℕ) (n : ℕ) (after : List ℕ) : Type 0 where
+  pub tree : Tree
+  pub reads : Reads (grammarOf table) list tree
+  pub only : (u : Tree) → Reads (grammarOf table) list u → u ≡ tree
+  pub count : n ≡ length (words tree)
+  pub front : take n after ≡ words tree
+  pub rest : drop n after ≡ drop n before
+  pub size : length after ≡ length before
+
+module _ (t l b : List ℕ) where
+  pub words-spelled : {c p n : ℕ} {a : List ℕ} → SentenceWritten t l b c p n a → c ≡ 0 → Spelled t l b n a
+  words-spelled (bad-table {r} e) z = absurd (omega (arith, refusal-code r))
+  words-spelled (too-many e h) z = absurd (omega arith)
+  words-spelled (wrong e h f) z = absurd (omega arith)
+  words-spelled (no-room e h r m) z = absurd (omega arith)
+  words-spelled (wrote {t = T} e h r m) z = record {
+    tree = T;
+    reads = r;
+    only = λ u s. one-tree (grammarOf t) (valid-grammar t e) l u T s r;
+    count = refl;
+    front = take-at (words T) (drop (length (words T)) b) (length (words T)) refl;
+    rest = drop-at (words T) (drop (length (words T)) b) (length (words T)) refl;
+    size = length-append (words T) (drop (length (words T)) b) ∙ omega (arith, length-drop (length (words T)) b);
+  }
+
+  -- 'Refusals by either write nothing', and have count 0
+  pub refused-unwritten : {c p n : ℕ} {a : List ℕ} → SentenceWritten t l b c p n a → (c ≡ 0 → ⊥) → (n ≡ 0) × (a ≡ b)
+  refused-unwritten (bad-table e) z = (refl, refl)
+  refused-unwritten (too-many e h) z = (refl, refl)
+  refused-unwritten (wrong e h f) z = (refl, refl)
+  refused-unwritten (no-room e h r m) z = (refl, refl)
+  refused-unwritten (wrote e h r m) z = absurd (z refl)
+
+-- the list of a tree of the start category is answered its words, where it has at most 255 nodes and the text has room
+pub tree-spelled :
+    {t b : List ℕ} {c p n : ℕ} {a : List ℕ} (T : Tree) → checkTable t ≡ got tt → Of (grammarOf t) T (grammarOf t .start) → length (functions T) ≤ 255
+    → length (words T) ≤ length b → SentenceWritten t (functions T) b c p n a
+    → Same c p n a 0 0 (length (words T)) (words T ++ drop (length (words T)) b)
+tree-spelled {t} {b} T e o h m x = same-sentence t (functions T) b x (wrote {t = T} e h (record { kind = o; told = refl }) m)
+
+-- any two results that the contract of `sentence` allows are equal
+pub same-answer :
+    (t l b : List ℕ) (r r′ : Answer) {a a′ : List ℕ} → SentenceWritten t l b (codeOf r) (placeOf r) (countOf r) a
+    → SentenceWritten t l b (codeOf r′) (placeOf r′) (countOf r′) a′
+    → Same (codeOf r) (placeOf r) (countOf r) a (codeOf r′) (placeOf r′) (countOf r′) a′
+same-answer t l b r r′ x y = same-sentence t l b x y

@@ -1,0 +1,64 @@
+use borrow.Author.Needs.{needs}
+use native.Mathlib.Omega.{arith}
+use mathlib.Core.Path.{_≡_, sym, _∙_, refl}
+use Rattle.table.proofs.Laws.{none-left, turn-on, turn-out, knew-with}
+use Rattle.meaning.specs.Table.{times, row, rule}
+use Rattle.table.specs.Views.{stepWith, usedOf, Square}
+use Rattle.table.proofs.cursor.Cursor.rows.Statement.{statement}
+use Rattle.table.proofs.cursor.Cursor.rows.Tie as tie
+
+abbrev Inv-loop : tie.InvT-loop
+Inv-loop table rule count used₀ c₀ left₀ used c left = (times left₀ (row table rule) (c₀ .at, usedOf used₀) ≡ times left (row table rule) (c .at, usedOf used)) × Square used
+
+abbrev μ-loop : tie.MeasureT-loop
+μ-loop table rule count used₀ c₀ left₀ used c left = left
+
+loop-holds : tie.Need-loop-holds Inv-loop μ-loop
+loop-holds c = (refl, c .before .pre .1)
+
+row-requires : tie.Need-row-requires Inv-loop μ-loop
+row-requires c κs = (c .before .before .before .before .pre .0, c .before .before .loop .inv .1)
+
+enum-known-s : tie.Need-enum-known-s Inv-loop μ-loop
+enum-known-s c = search needs
+
+enum-told : tie.Need-enum-told Inv-loop μ-loop
+enum-told c = search needs
+
+returns : tie.Need-returns Inv-loop μ-loop
+returns c = (
+  rw (c .enum-told .given .1)
+      (sym (c .before .before .before .before .before .loop .inv .0 ∙ turn-out _ _ _ _ (c .before .before .before .before .loop-test .taken) (knew-with stepWith _ (c .before .before .row .ensures .0) (c .enum-told .given .1)))),
+  c .before .before .row .ensures .1,
+)
+
+sub-left : tie.Need-sub-left Inv-loop μ-loop
+sub-left c = search needs
+
+loop-less : tie.Need-loop-less Inv-loop μ-loop
+loop-less c = omega arith
+
+loop-again : tie.Need-loop-again Inv-loop μ-loop
+loop-again c = (
+  c .before .before .before .before .before .before .loop .inv .0 ∙ turn-on _ _ _ _ (c .before .before .before .before .before .loop-test .taken) (knew-with stepWith _ (c .before .before .before .row .ensures .0) (c .before .s .given .1)),
+  c .before .before .before .row .ensures .1,
+)
+
+returns-2 : tie.Need-returns-2 Inv-loop μ-loop
+returns-2 c = (sym (c .before .loop .inv .0 ∙ none-left _ _ _ (omega arith)), c .before .loop .inv .1)
+
+pub rows-spec : {M : Type 1} → statement M
+rows-spec =
+    tie.close
+    (tie.spec
+    Inv-loop
+    μ-loop
+    loop-holds
+    row-requires
+    enum-known-s
+    enum-told
+    returns
+    sub-left
+    loop-less
+    loop-again
+    returns-2)

@@ -1,11 +1,10 @@
 -- A row's ranges one after another from one of its ends, and how what is known of the place there moves along them. Both ends go alike: `near`
 -- is the end of a range that comes first, `far` the other, and `J p q r` that p, and then q, are r.
-use Prim.Native.Nat.{ℕ, zero, suc, _+_, _*_, _-_, _≤_, _<_}
 use mathlib.Core.Path.{_≡_, refl, sym, ap, subst, _∙_}
 use mathlib.Core.Logic.{_⊎_, inl, inr}
-use mathlib.Core.List.{List, [], _∷_}
+use mathlib.Core.List.{List}
+use Prim.Native.Nat.{ℕ, zero, suc, _+_, _*_, _-_, _<_}
 use native.Mathlib.Omega.{arith}
-use lib.ListN.{length}
 use Rattle.meaning.specs.Range.{Range, none}
 use Rattle.meaning.specs.Grammar.{Symbol, word, part}
 use Rattle.meaning.specs.Giving.{Run, done, more, Stands}

@@ -1,22 +1,20 @@
 -- What is asked of a daughter leaves out only what gives nothing: its height, and then each row.
-use Prim.Native.Nat.{ℕ, zero, suc, _+_, _-_, _≤_, _<_, max}
-use mathlib.Core.Path.{_≡_, refl, sym, ap, subst, _∙_}
-use mathlib.Core.Logic.{_⊎_, inl, inr}
-use mathlib.Core.Bool.{true}
+use mathlib.Core.Path.{_≡_, refl, sym, ap, _∙_}
+use mathlib.Core.Logic.{inl, inr}
 use mathlib.Core.List.{List, [], _∷_}
+use Prim.Native.Nat.{ℕ, zero, suc, _-_, _≤_, _<_}
 use native.Mathlib.Omega.{arith}
 use native.Mathlib.Decide.{decLt}
-use lib.ListN.{length, getD, take, length-map, List·getD-map, List·getD-eq-default, length-take}
+use lib.ListN.{length, getD, length-map, List·getD-map, List·getD-eq-default, length-take}
 use lib.Seq.{getD-take}
-use Rattle.meaning.specs.Range.{Range, none, Item, nothing, at}
-use Rattle.meaning.specs.Grammar.{Symbol}
+use Rattle.meaning.specs.Range.{Range, Item, nothing, at}
 use Rattle.meaning.specs.Giving.{held}
 use Rattle.meaning.specs.Chart.{Known, item, things, tallest}
 use Rattle.phrase.specs.declared.items.Item.{Item as CodedItem}
 use Rattle.phrase.specs.declared.items.Daughters.{Daughters}
-use Rattle.phrase.specs.Phrase.{itemOf, itemsOf, heldOf, rowOf}
+use Rattle.phrase.specs.Phrase.{itemOf, itemsOf, rowOf}
 use Rattle.hint.specs.declared.Wants.{Wants}
-use Rattle.hint.specs.Hint.{seat, Open, heldAs, unknown, Partial, Completes, Does, Meets, Asks}
+use Rattle.hint.specs.Hint.{seat, Open, unknown, Partial, Completes, Asks}
 use Rattle.hint.specs.State.{Knows, Sharper, Ways, Wanted, Low, LeastAsked}
 
 -- the greatest height of some items, and that of the item at a place

@@ -1,12 +1,11 @@
 -- How the state of a place moves over one symbol of a row, and what it lets be asked.
-use Prim.Native.Nat.{ℕ, zero, suc, _+_, _-_, _≤_, _<_}
 use mathlib.Core.Path.{_≡_, refl, sym, ap, subst, _∙_}
-use mathlib.Core.Logic.{inl, inr}
 use mathlib.Core.List.{List, [], _∷_}
+use Prim.Native.Nat.{ℕ, zero, suc, _+_, _-_, _≤_, _<_}
 use native.Mathlib.Omega.{arith}
 use lib.ListN.{length, getD}
 use borrow.Author.Tests.{eq-eqb, ne-eqb}
-use Rattle.meaning.specs.Range.{Range, none, Spans}
+use Rattle.meaning.specs.Range.{Range, Spans}
 use Rattle.meaning.specs.Grammar.{Symbol, word, part}
 use Rattle.meaning.specs.Giving.{Stands}
 use Rattle.meaning.specs.Table.{byte, number}
@@ -15,13 +14,13 @@ use Rattle.meaning.proofs.Spans.{word-at}
 use Rattle.phrase.specs.declared.items.Daughters.{Daughters}
 use Rattle.phrase.specs.declared.rows.Row.{Row}
 use Rattle.phrase.specs.declared.rows.Row.the-variants.{At as Here}
-use Rattle.phrase.specs.Phrase.{EndsIn}
+use Rattle.phrase.specs.Phrase.{heldOf, EndsIn}
 use Rattle.hint.specs.declared.Turn.{Turn}
 use Rattle.hint.specs.declared.Turn.the-variants.{Daughter, Done}
 use Rattle.hint.specs.declared.steps.State.{State}
 use Rattle.hint.specs.declared.steps.State.the-variants.{Free, At, Never}
-use Rattle.hint.specs.Hint.{seat, Open, As, Partial, Turns, next-is, all-chosen}
-use Rattle.hint.specs.State.{Agrees, Some, Moves, Named}
+use Rattle.hint.specs.Hint.{seat, Open, Partial, Turns, next-is, all-chosen}
+use Rattle.hint.specs.State.{Agrees, Moves, Knows, Named}
 
 -- the third daughter stands last
 pub seat-last : (d : Daughters) (k : ℕ) → (k ≡ 0 → ⊥) → (k ≡ 1 → ⊥) → d .three ≡ seat d k
@@ -48,6 +47,10 @@ none-open d h f g i = all-chosen go
     go (suc zero) l o = g (l, o)
     go (suc (suc zero)) l o = i (l, o)
     go (suc (suc (suc k))) l o = let b = h .few in omega arith
+
+-- a daughter that is chosen has its constituents
+pub chosen-part : (d : Daughters) (k c : ℕ) {A : ℕ} {q : Range} (e : ℕ → ℕ → Range) → Knows d e → A ≡ seat d k .category → (A ≡ 0 → ⊥) → q ≡ heldOf d k c → e k c ≡ q
+chosen-part d k c e kn f g h = kn k c (λ o. g (f ∙ o)) ∙ sym h
 
 -- the states
 pub at-place : {s : State} {e n : ℕ} → s ≡ At e → Agrees s n → n ≡ e

@@ -1,11 +1,10 @@
 -- Which codes are as asked: the tests' answers, and where such codes stand in the order of codes.
-use Prim.Native.Nat.{ℕ, suc, _+_, _*_, _≤_, _<_}
 use mathlib.Core.Path.{_≡_, sym, ap}
 use mathlib.Core.Logic.{_⊎_, inl, inr}
 use mathlib.Core.Bool.{Bool}
+use Prim.Native.Nat.{ℕ, _+_, _*_, _≤_, _<_}
 use native.Mathlib.Omega.{arith}
-use Rattle.meaning.specs.Range.{Range, none, Item}
-use Rattle.meaning.proofs.Joining.{range-path}
+use Rattle.meaning.specs.Range.{Range, none}
 use Rattle.store.specs.Set.{keyOf, Within}
 use Rattle.store.specs.Code.{unpacked, knownOf}
 use Rattle.phrase.specs.Phrase.{Decides}
@@ -13,7 +12,8 @@ use Rattle.phrase.proofs.Fit.{instead}
 use Rattle.hint.specs.declared.Want.{Want}
 use Rattle.hint.specs.declared.Wants.{Wants}
 use Rattle.hint.specs.declared.Reach.{Reach}
-use Rattle.hint.specs.Hint.{As, PartMeets, PartsMeet, Meets, Reaches}
+use Rattle.hint.specs.Hint.{As, PartMeets, Meets, Reaches}
+use Rattle.hint.specs.State.{PartsMeet}
 
 -- the tests, one after another
 pub as-not : {asked n : ℕ} → (asked ≡ 65 → ⊥) → (asked ≡ n → ⊥) → As asked n → ⊥

@@ -1,8 +1,8 @@
 -- More is asked, step by step, and what a way to run a row meets stays met.
-use Prim.Native.Nat.{ℕ, zero, suc, _+_, _*_, _-_, _≤_, _<_}
-use mathlib.Core.Path.{_≡_, refl, sym, ap, subst, _∙_}
+use mathlib.Core.Path.{_≡_, refl, sym, subst, _∙_}
 use mathlib.Core.Logic.{_⊎_, inl, inr}
 use mathlib.Core.List.{List}
+use Prim.Native.Nat.{ℕ, suc, _+_, _*_, _-_, _<_}
 use native.Mathlib.Omega.{arith}
 use Rattle.meaning.specs.Range.{Range, none}
 use Rattle.meaning.specs.Grammar.{Symbol, part}
@@ -16,9 +16,9 @@ use Rattle.phrase.specs.declared.items.Daughters.{Daughters}
 use Rattle.hint.specs.declared.Want.{Want}
 use Rattle.hint.specs.declared.Wants.{Wants}
 use Rattle.hint.specs.declared.steps.State.{State}
-use Rattle.hint.specs.Hint.{As, PartMeets, PartsMeet}
-use Rattle.hint.specs.State.{Agrees, Some, StartsAs, EndsAs, Moves, Knows, Sharper, PartStarts, PartEnds, Ways}
-use Rattle.hint.proofs.Chains.{Side, on, back, nil, Walk, stands-proper, walks, asks, run-chain, fold-chain}
+use Rattle.hint.specs.Hint.{As, PartMeets}
+use Rattle.hint.specs.State.{Agrees, StartsAs, EndsAs, Moves, Knows, Sharper, PartStarts, PartEnds, Ways}
+use Rattle.hint.proofs.Chains.{Side, nil, Walk, stands-proper, walks, asks, run-chain, fold-chain}
 
 pub sharper-none : {P : (ℕ → Range) → Type 0} {w : Wants} → Sharper P w w
 sharper-none = record { low = refl; high = refl; parts = λ f p m. m }
@@ -26,83 +26,34 @@ sharper-none = record { low = refl; high = refl; parts = λ f p m. m }
 pub sharper-then : {P Q : (ℕ → Range) → Type 0} {w v u : Wants} → Sharper Q w v → ((f : ℕ → Range) → Q f → P f) → Sharper P v u → Sharper Q w u
 sharper-then a g b = record { low = b .low ∙ a .low; high = b .high ∙ a .high; parts = λ f q m. b .parts f (g f q) (a .parts f q m) }
 
--- one part's start, or end, is asked for
-set-start : {w : Want} {v : ℕ} {r : Range} → (r ≡ none) ⊎ As v (r .from) → PartMeets w r → PartMeets (record { from = v; to = w .to }) r
+-- another thing is asked of one part
+module _ {Q : (ℕ → Range) → Type 0} {w : Wants} {v : Want} where
+  pub first-sharper : ((f : ℕ → Range) → Q f → PartMeets (w .one) (f 0) → PartMeets v (f 0)) → Sharper Q w (record { low = w .low; high = w .high; one = v; two = w .two; three = w .three })
+  first-sharper g = record { low = refl; high = refl; parts = λ f q m. record { one = g f q (m .one); two = m .two; three = m .three } }
+
+  pub second-sharper : ((f : ℕ → Range) → Q f → PartMeets (w .two) (f 1) → PartMeets v (f 1)) → Sharper Q w (record { low = w .low; high = w .high; one = w .one; two = v; three = w .three })
+  second-sharper g = record { low = refl; high = refl; parts = λ f q m. record { one = m .one; two = g f q (m .two); three = m .three } }
+
+  pub third-sharper : ((f : ℕ → Range) → Q f → PartMeets (w .three) (f 2) → PartMeets v (f 2)) → Sharper Q w (record { low = w .low; high = w .high; one = w .one; two = w .two; three = v })
+  third-sharper g = record { low = refl; high = refl; parts = λ f q m. record { one = m .one; two = m .two; three = g f q (m .three) } }
+
+-- its start, or its end
+set-start : {v : Want} {n : ℕ} {r : Range} → (r ≡ none) ⊎ As n (r .from) → PartMeets v r → PartMeets (record { from = n; to = v .to }) r
 set-start (inl e) m = inl e
 set-start (inr a) (inl e) = inl e
 set-start (inr a) (inr m) = inr (a, m .1)
 
-set-end : {w : Want} {v : ℕ} {r : Range} → (r ≡ none) ⊎ As v (r .to) → PartMeets w r → PartMeets (record { from = w .from; to = v }) r
+set-end : {v : Want} {n : ℕ} {r : Range} → (r ≡ none) ⊎ As n (r .to) → PartMeets v r → PartMeets (record { from = v .from; to = n }) r
 set-end (inl e) m = inl e
 set-end (inr a) (inl e) = inl e
 set-end (inr a) (inr m) = inr (m .0, a)
 
-module _ {w : Wants} {c v : ℕ} where
-  pub start-one : c ≡ 0 → Sharper (PartStarts c v) w (record { low = w .low; high = w .high; one = record { from = v; to = w .one .to }; two = w .two; three = w .three })
-  start-one e = record {
-    low = refl;
-    high = refl;
-    parts = λ f p m. record {
-      one = set-start (subst (λ (c : ℕ). (f c ≡ none) ⊎ As v (f c .from)) e (p (omega arith))) (m .one);
-      two = m .two;
-      three = m .three;
-    };
-  }
+module _ (v : Want) (n i : ℕ) {c : ℕ} (few : i < 3) (is : c ≡ i) (f : ℕ → Range) where
+  pub starts-at : PartStarts c n f → PartMeets v (f i) → PartMeets (record { from = n; to = v .to }) (f i)
+  starts-at p m = set-start {v = v} (subst (λ (c : ℕ). (f c ≡ none) ⊎ As n (f c .from)) is (p (omega arith))) m
 
-  pub start-two : c ≡ 1 → Sharper (PartStarts c v) w (record { low = w .low; high = w .high; one = w .one; two = record { from = v; to = w .two .to }; three = w .three })
-  start-two e = record {
-    low = refl;
-    high = refl;
-    parts = λ f p m. record {
-      one = m .one;
-      two = set-start (subst (λ (c : ℕ). (f c ≡ none) ⊎ As v (f c .from)) e (p (omega arith))) (m .two);
-      three = m .three;
-    };
-  }
-
-  pub start-three : c ≡ 2 → Sharper (PartStarts c v) w (record { low = w .low; high = w .high; one = w .one; two = w .two; three = record { from = v; to = w .three .to } })
-  start-three e = record {
-    low = refl;
-    high = refl;
-    parts = λ f p m. record {
-      one = m .one;
-      two = m .two;
-      three = set-start (subst (λ (c : ℕ). (f c ≡ none) ⊎ As v (f c .from)) e (p (omega arith))) (m .three);
-    };
-  }
-
-  pub end-one : c ≡ 0 → Sharper (PartEnds c v) w (record { low = w .low; high = w .high; one = record { from = w .one .from; to = v }; two = w .two; three = w .three })
-  end-one e = record {
-    low = refl;
-    high = refl;
-    parts = λ f p m. record {
-      one = set-end (subst (λ (c : ℕ). (f c ≡ none) ⊎ As v (f c .to)) e (p (omega arith))) (m .one);
-      two = m .two;
-      three = m .three;
-    };
-  }
-
-  pub end-two : c ≡ 1 → Sharper (PartEnds c v) w (record { low = w .low; high = w .high; one = w .one; two = record { from = w .two .from; to = v }; three = w .three })
-  end-two e = record {
-    low = refl;
-    high = refl;
-    parts = λ f p m. record {
-      one = m .one;
-      two = set-end (subst (λ (c : ℕ). (f c ≡ none) ⊎ As v (f c .to)) e (p (omega arith))) (m .two);
-      three = m .three;
-    };
-  }
-
-  pub end-three : c ≡ 2 → Sharper (PartEnds c v) w (record { low = w .low; high = w .high; one = w .one; two = w .two; three = record { from = w .three .from; to = v } })
-  end-three e = record {
-    low = refl;
-    high = refl;
-    parts = λ f p m. record {
-      one = m .one;
-      two = m .two;
-      three = set-end (subst (λ (c : ℕ). (f c ≡ none) ⊎ As v (f c .to)) e (p (omega arith))) (m .three);
-    };
-  }
+  pub ends-at : PartEnds c n f → PartMeets v (f i) → PartMeets (record { from = v .from; to = n }) (f i)
+  ends-at p m = set-end {v = v} (subst (λ (c : ℕ). (f c ≡ none) ⊎ As n (f c .to)) is (p (omega arith))) m
 
 -- a loop over a row's symbols: what has been asked of the ways Q so far, and that each of them still has a walk over the symbols that are left
 pub record Pass (near : Range → ℕ) (J : Range → Range → Range → Type 0) (ws : List ℕ) (symbol : ℕ → Symbol) (d : Daughters) (k : ℕ) (Q : (ℕ → Range) → Type 0) (w : Wants) (n : ℕ) (s : State) (r : Wants) : Type 0 where

@@ -52,18 +52,13 @@ pub record Does (t ws : List ℕ) (rule : ℕ) (goal : CodedItem) (full : List (
   pub high : goal .height ≡ suc (tallest full)
   pub same : (goal .category ≡ 0 → ⊥) → x ≡ itemOf goal
 
--- a part that is not empty starts and ends as asked; 65 asks for nothing
+-- a number is as asked; 65 asks for nothing
 abbrev pub As : ℕ → ℕ → Type 0
 As asked n = (asked ≡ 65) ⊎ (asked ≡ n)
 
+-- a part is empty, or starts and ends as asked
 abbrev pub PartMeets : Want → Range → Type 0
 PartMeets w r = (r ≡ none) ⊎ (As (w .from) (r .from) × As (w .to) (r .to))
-
--- a daughter's parts are as asked
-pub record PartsMeet (w : Wants) (f : ℕ → Range) : Type 0 where
-  pub one : PartMeets (w .one) (f 0)
-  pub two : PartMeets (w .two) (f 1)
-  pub three : PartMeets (w .three) (f 2)
 
 -- a daughter is as asked
 pub record Meets (w : Wants) (k : Known Item) : Type 0 where

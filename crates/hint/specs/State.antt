@@ -1,13 +1,12 @@
 -- What is known of a place between two symbols of a row, as the code walks the row from its left end, or back from its right end: how the
 -- state moves over a symbol, and what may be asked of a part there. That this leaves out only what gives nothing is proved in proofs/.
-use Prim.Native.Nat.{ℕ, _≤_, _<_}
+use Prim.Native.Nat.{ℕ, _<_}
 use mathlib.Core.Path.{_≡_}
 use mathlib.Core.Logic.{_⊎_}
 use mathlib.Core.List.{List}
-use Rattle.meaning.specs.Range.{Range, none, Item, at}
+use Rattle.meaning.specs.Range.{Range, none, at}
 use Rattle.meaning.specs.Grammar.{Symbol}
 use Rattle.meaning.specs.Giving.{Run, Stands}
-use Rattle.meaning.specs.Decode.{rowAt}
 use Rattle.phrase.specs.declared.items.Item.{Item as CodedItem}
 use Rattle.phrase.specs.declared.items.Daughters.{Daughters}
 use Rattle.phrase.specs.Phrase.{itemOf, heldOf}
@@ -16,7 +15,7 @@ use Rattle.hint.specs.declared.Turn.{Turn}
 use Rattle.hint.specs.declared.Turn.the-variants.{Daughter, Done}
 use Rattle.hint.specs.declared.steps.State.{State}
 use Rattle.hint.specs.declared.steps.State.the-variants.{Free, At, Never}
-use Rattle.hint.specs.Hint.{seat, Open, As, PartsMeet}
+use Rattle.hint.specs.Hint.{seat, Open, As, PartMeets}
 
 -- the place n is as the state says
 abbrev pub Agrees : State → ℕ → Type 0
@@ -50,6 +49,12 @@ MovesOn ws d x s s′ = (e : ℕ → ℕ → Range) (p : Range) → Knows d e �
 
 abbrev pub MovesBack : List ℕ → Daughters → Symbol → State → State → Type 0
 MovesBack ws d x s s′ = (e : ℕ → ℕ → Range) (p : Range) → Knows d e → Stands ws e x p → Moves p (p .to) (p .from) s s′
+
+-- a daughter's parts are as asked
+pub record PartsMeet (w : Wants) (f : ℕ → Range) : Type 0 where
+  pub one : PartMeets (w .one) (f 0)
+  pub two : PartMeets (w .two) (f 1)
+  pub three : PartMeets (w .three) (f 2)
 
 -- w′ asks more than w, but of parts f that have P nothing that they do not meet
 pub record Sharper (P : (ℕ → Range) → Type 0) (w w′ : Wants) : Type 0 where

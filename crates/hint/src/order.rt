@@ -3,7 +3,7 @@ ghost use mathlib.Core.Path.{_≡_};
 ghost use Prim.Native.Nat.{_+_, _<_, _≤_};
 ghost use lib.ListN.{length};
 ghost use Rattle.meaning.specs.Decode.{rowEnd};
-ghost use Rattle.phrase.specs.Phrase.{RuleOf, EndsIn, Decides};
+ghost use Rattle.phrase.specs.Phrase.{RuleOf, Decides};
 ghost use Rattle.hint.specs.Hint.{seat, Open, Partial, Turns};
 ghost use Rattle.hint.specs.State.{Named};
 use crate::Turn;

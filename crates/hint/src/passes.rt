@@ -1,5 +1,5 @@
 // A row walked from its left end, and back from its right end: what is asked of the parts of a daughter on the way.
-ghost use Prim.Native.Nat.{ℕ, _≤_};
+ghost use Prim.Native.Nat.{_≤_};
 ghost use lib.ListN.{length};
 ghost use Rattle.meaning.specs.Range as range;
 ghost use Rattle.meaning.specs.Decode.{rowAt, rowEnd};
@@ -121,11 +121,10 @@ fn opening(goal: Item, i: usize) -> State
         return State::Free;
     }
     let r = range_at(goal, i);
-    let start = r.from;
     if r.to == 0 {
         return State::Never;
     }
-    State::At(start)
+    State::At(r.from)
 }
 
 // What is known of the end of row i, where an item is wanted.
@@ -136,11 +135,10 @@ fn closing(goal: Item, i: usize) -> State
         return State::Free;
     }
     let r = range_at(goal, i);
-    let end = r.to;
-    if end == 0 {
+    if r.to == 0 {
         return State::Never;
     }
-    State::At(end)
+    State::At(r.to)
 }
 
 // Asks besides where the parts of daughter k in row i of the rule must start and end.

@@ -4,7 +4,6 @@ ghost use mathlib.Core.List.{[], _∷_};
 ghost use Prim.Native.Nat.{ℕ, _+_, _-_, _≤_, _<_};
 ghost use lib.ListN.{length};
 ghost use Rattle.meaning.specs.Range.{Range, Spans};
-ghost use Rattle.meaning.specs.Giving.{Stands};
 ghost use Rattle.meaning.specs.Grammar.{part};
 ghost use Rattle.meaning.specs.Decode.{symbolAt};
 ghost use Rattle.hint.specs.Hint.{As};
@@ -97,30 +96,29 @@ fn word_back(words: &[u16], w: u16, s: State) -> State
 }
 
 // The state after constituent c of daughter k, from that before it.
-fn part_on(d: Daughters, k: usize, c: usize, s: State) -> State
-    ensures { λ r. ⌜ ((e : ℕ → ℕ → Range) → Knows d e → Moves (e k c) (e k c .from) (e k c .to) s r) ⌝ }
-{
-    if category_of(d, k) == 0 {
-        return State::Free;
-    }
-    let p = held(d, k, c);
-    let end = p.to;
-    if end == 0 {
-        return s;
-    }
-    State::At(end)
-}
-
-// The state before constituent c of daughter k, from that after it.
-fn part_back(d: Daughters, k: usize, c: usize, s: State) -> State
-    ensures { λ r. ⌜ ((e : ℕ → ℕ → Range) → Knows d e → Moves (e k c) (e k c .to) (e k c .from) s r) ⌝ }
+fn part_on(d: Daughters, k: usize, c: usize, before: State) -> State
+    ensures { λ r. ⌜ ((e : ℕ → ℕ → Range) → Knows d e → Moves (e k c) (e k c .from) (e k c .to) before r) ⌝ }
 {
     if category_of(d, k) == 0 {
         return State::Free;
     }
     let p = held(d, k, c);
     if p.to == 0 {
-        return s;
+        return before;
+    }
+    State::At(p.to)
+}
+
+// The state before constituent c of daughter k, from that after it.
+fn part_back(d: Daughters, k: usize, c: usize, after: State) -> State
+    ensures { λ r. ⌜ ((e : ℕ → ℕ → Range) → Knows d e → Moves (e k c) (e k c .to) (e k c .from) after r) ⌝ }
+{
+    if category_of(d, k) == 0 {
+        return State::Free;
+    }
+    let p = held(d, k, c);
+    if p.to == 0 {
+        return after;
     }
     State::At(p.from)
 }

@@ -1,14 +1,10 @@
+-- `hint::asking::is_low` meets its contract: the three tests of a daughter.
+use mathlib.Core.Path.{_≡_, _∙_}
 use Prim.Native.Nat.{ℕ}
-use mathlib.Core.Path.{_≡_, sym, ap, _∙_}
 use native.Mathlib.Omega.{arith}
 use borrow.Author.Needs.{needs}
 use Rattle.hint.proofs.asking.is_low.Statement.{statement}
 use Rattle.hint.proofs.asking.is_low.Tie as tie
-use Rattle.hint.proofs.asking.is_low.Reads as reads
-use Rattle.hint.proofs.asking.is_low.Lts as lts
-use Rattle.hint.proofs.asking.height_of.Reads as height-of-reads
-use Rattle.hint.proofs.asking.wide.Reads as wide-reads
-use Rattle.hint.proofs.order.category_of.Reads as category-of-reads
 
 returns : tie.Need-returns
 returns c = λ t l f. absurd (f (c .if1 .taken))

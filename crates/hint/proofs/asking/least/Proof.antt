@@ -1,14 +1,11 @@
+-- `hint::asking::least` meets its contract: where no daughter stands against it, all three are low.
 use mathlib.Core.Logic.{inl, inr}
 use mathlib.Core.Path.{refl}
 use borrow.Author.Tests.{not-false}
-use Rattle.hint.proofs.Heights.{three-low}
-use native.Mathlib.Omega.{arith}
 use borrow.Author.Needs.{needs}
+use Rattle.hint.proofs.Heights.{three-low}
 use Rattle.hint.proofs.asking.least.Statement.{statement}
 use Rattle.hint.proofs.asking.least.Tie as tie
-use Rattle.hint.proofs.asking.least.Reads as reads
-use Rattle.hint.proofs.asking.least.Lts as lts
-use Rattle.hint.proofs.asking.is_low.Reads as is-low-reads
 
 is-low-requires : tie.Need-is-low-requires
 is-low-requires c κs = search needs
@@ -29,7 +26,13 @@ returns-3 : tie.Need-returns-3
 returns-3 c = inl refl
 
 returns-4 : tie.Need-returns-4
-returns-4 c = inr (refl, three-low (c .before .before .before .before .before .before .args .d) (c .before .before .before .before .before .before .args .k) (c .before .before .before .before .before .before .args .high) (c .before .before .before .before .before .before .pre .few) (c .before .before .before .before .before .is-low .ensures (not-false _ (c .before .before .before .before .if1 .left))) (c .before .before .before .is-low2 .ensures (not-false _ (c .before .before .if2 .left))) (c .before .is-low3 .ensures (not-false _ (c .if3 .left))))
+returns-4 c =
+    let a = c .before .before .before .before .before .before .args in
+    let low = three-low (a .d) (a .k) (a .high) (c .before .before .before .before .before .before .pre .few)
+    (c .before .before .before .before .before .is-low .ensures (not-false _ (c .before .before .before .before .if1 .left)))
+    (c .before .before .before .is-low2 .ensures (not-false _ (c .before .before .if2 .left)))
+    (c .before .is-low3 .ensures (not-false _ (c .if3 .left))) in
+    inr (refl, low)
 
 pub least-spec : {M : Type 1} → statement M
 least-spec =

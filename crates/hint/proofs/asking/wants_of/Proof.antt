@@ -1,17 +1,12 @@
-use Prim.Native.Nat.{_-_, _≤_}
+-- `hint::asking::wants_of` meets its contract. The loop's invariant: what is asked so far leaves out only what gives nothing.
 use mathlib.Core.Path.{ap}
-use Prim.Native.Nat.{ℕ}
+use Prim.Native.Nat.{_-_, _≤_, ℕ}
+use native.Mathlib.Omega.{arith}
+use borrow.Author.Needs.{needs}
 use Rattle.hint.specs.Hint.{Asks}
 use Rattle.hint.proofs.Heights.{asks-first, asks-more}
-use borrow.Author.Needs.{needs}
-use native.Mathlib.Omega.{arith}
 use Rattle.hint.proofs.asking.wants_of.Statement.{statement}
 use Rattle.hint.proofs.asking.wants_of.Tie as tie
-use Rattle.hint.proofs.asking.wants_of.Reads as reads
-use Rattle.hint.proofs.asking.wants_of.Lts as lts
-use Rattle.hint.proofs.asking.least.Reads as least-reads
-use Rattle.hint.proofs.asking.wide.Reads as wide-reads
-use Rattle.hint.proofs.passes.row_asks.Reads as row-asks-reads
 
 abbrev Inv-loop : tie.InvT-loop
 Inv-loop table rule words d goal k high low w₀ i₀ w i = (i ≤ 3) × Asks table words rule d goal k w
@@ -30,8 +25,10 @@ least-requires c κs = search needs
 
 loop-holds : tie.Need-loop-holds Inv-loop μ-loop
 loop-holds c =
-    let a = c .before .before .before .before .args in
-    (omega arith, asks-first (a .table .now) (a .words .now) (a .rule) (a .d) (a .goal) (a .k) (c .before .before .before .before .pre .1) (c .least .ensures) (ap (λ (n : ℕ). n - 1) (c .before .wide .ensures)))
+    let a = c .before .before .before .before .args in (
+      omega arith,
+      asks-first (a .table .now) (a .words .now) (a .rule) (a .d) (a .goal) (a .k) (c .before .before .before .before .pre .1) (c .least .ensures) (ap (λ (n : ℕ). n - 1) (c .before .wide .ensures)),
+    )
 
 row-asks-requires : tie.Need-row-asks-requires Inv-loop μ-loop
 row-asks-requires c κs = search needs
@@ -44,8 +41,10 @@ loop-less c = omega arith
 
 loop-again : tie.Need-loop-again Inv-loop μ-loop
 loop-again c =
-    let a = c .before .before .before .before .before .before .before .args in
-    (omega arith, asks-more (a .table .now) (a .words .now) (a .rule) (a .d) (a .goal) (a .k) (c .before .before .before .before .before .before .before .pre .1) (c .before .before .loop .i) (c .row-asks .ensures) (c .before .before .loop .inv .1))
+    let a = c .before .before .before .before .before .before .before .args in (
+      omega arith,
+      asks-more (a .table .now) (a .words .now) (a .rule) (a .d) (a .goal) (a .k) (c .before .before .before .before .before .before .before .pre .1) (c .before .before .loop .i) (c .row-asks .ensures) (c .before .before .loop .inv .1),
+    )
 
 returns : tie.Need-returns Inv-loop μ-loop
 returns c = c .before .loop .inv .1

@@ -1,12 +1,9 @@
+-- `hint::codes::is_as` meets its contract: the two ways to be as asked.
 use mathlib.Core.Logic.{inl, inr}
 use Rattle.phrase.specs.Phrase.{holds, fails}
 use Rattle.hint.proofs.Segments.{as-not}
-use borrow.Author.Needs.{needs}
-use native.Mathlib.Omega.{arith}
 use Rattle.hint.proofs.codes.is_as.Statement.{statement}
 use Rattle.hint.proofs.codes.is_as.Tie as tie
-use Rattle.hint.proofs.codes.is_as.Reads as reads
-use Rattle.hint.proofs.codes.is_as.Lts as lts
 
 returns : tie.Need-returns
 returns c = holds (inl (c .if1 .taken))

@@ -1,13 +1,10 @@
+-- `hint::codes::is_empty` meets its contract: a range is the empty one by both its numbers.
 use mathlib.Core.Path.{ap}
 use Rattle.meaning.specs.Range.{Range, none}
 use Rattle.meaning.proofs.Joining.{range-path}
 use Rattle.phrase.specs.Phrase.{holds, fails}
-use borrow.Author.Needs.{needs}
-use native.Mathlib.Omega.{arith}
 use Rattle.hint.proofs.codes.is_empty.Statement.{statement}
 use Rattle.hint.proofs.codes.is_empty.Tie as tie
-use Rattle.hint.proofs.codes.is_empty.Reads as reads
-use Rattle.hint.proofs.codes.is_empty.Lts as lts
 
 returns : tie.Need-returns
 returns c = fails (λ e. c .if1 .taken (ap (λ (r : Range). r .from) e))

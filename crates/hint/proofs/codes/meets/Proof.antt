@@ -1,12 +1,10 @@
-use Rattle.phrase.specs.Phrase.{fails}
-use Rattle.phrase.proofs.Fit.{instead}
+-- `hint::codes::meets` meets its contract: the height's two tests, then the parts'.
 use native.Mathlib.Omega.{arith}
 use borrow.Author.Needs.{needs}
+use Rattle.phrase.specs.Phrase.{fails}
+use Rattle.phrase.proofs.Fit.{instead}
 use Rattle.hint.proofs.codes.meets.Statement.{statement}
 use Rattle.hint.proofs.codes.meets.Tie as tie
-use Rattle.hint.proofs.codes.meets.Reads as reads
-use Rattle.hint.proofs.codes.meets.Lts as lts
-use Rattle.hint.proofs.codes.parts_meet.Reads as parts-meet-reads
 
 returns : tie.Need-returns
 returns c = fails (λ m. let l = m .low in omega arith)

@@ -1,16 +1,12 @@
-use mathlib.Core.Logic.{inl, inr}
+-- `hint::codes::part_meets` meets its contract: an empty part, or its start and then its end.
+use mathlib.Core.Logic.{inl}
 use borrow.Author.Tests.{not-true, not-false}
+use borrow.Author.Needs.{needs}
 use Rattle.phrase.specs.Phrase.{holds, fails}
 use Rattle.phrase.proofs.Fit.{said-yes, said-no}
 use Rattle.hint.proofs.Segments.{starts-not, part-last}
-use native.Mathlib.Omega.{arith}
-use borrow.Author.Needs.{needs}
 use Rattle.hint.proofs.codes.part_meets.Statement.{statement}
 use Rattle.hint.proofs.codes.part_meets.Tie as tie
-use Rattle.hint.proofs.codes.part_meets.Reads as reads
-use Rattle.hint.proofs.codes.part_meets.Lts as lts
-use Rattle.hint.proofs.codes.is_as.Reads as is-as-reads
-use Rattle.hint.proofs.codes.is_empty.Reads as is-empty-reads
 
 is-empty-requires : tie.Need-is-empty-requires
 is-empty-requires c κs = search needs

@@ -1,15 +1,12 @@
+-- `hint::codes::parts_meet` meets its contract: the three parts, as the key's digits have them.
 use borrow.Author.Tests.{not-true, not-false}
+use borrow.Author.Needs.{needs}
 use Rattle.store.specs.Code.{unpacked}
 use Rattle.phrase.specs.Phrase.{fails}
 use Rattle.phrase.proofs.Fit.{said-yes, said-no}
 use Rattle.hint.proofs.Segments.{parts-last}
-use native.Mathlib.Omega.{arith}
-use borrow.Author.Needs.{needs}
 use Rattle.hint.proofs.codes.parts_meet.Statement.{statement}
 use Rattle.hint.proofs.codes.parts_meet.Tie as tie
-use Rattle.hint.proofs.codes.parts_meet.Reads as reads
-use Rattle.hint.proofs.codes.parts_meet.Lts as lts
-use Rattle.hint.proofs.codes.part_meets.Reads as part-meets-reads
 
 part-meets-requires : tie.Need-part-meets-requires
 part-meets-requires c κs = search needs

@@ -1,11 +1,8 @@
-use Rattle.hint.proofs.Segments.{reach-all, reach-zero, reach-start, reach-empty}
-use native.Mathlib.Omega.{arith}
+-- `hint::codes::reach_of` meets its contract: one law for each thing that can be asked of the first part's start.
 use borrow.Author.Needs.{needs}
+use Rattle.hint.proofs.Segments.{reach-all, reach-zero, reach-start, reach-empty}
 use Rattle.hint.proofs.codes.reach_of.Statement.{statement}
 use Rattle.hint.proofs.codes.reach_of.Tie as tie
-use Rattle.hint.proofs.codes.reach_of.Reads as reads
-use Rattle.hint.proofs.codes.reach_of.Lts as lts
-use Rattle.hint.proofs.codes.wide.Reads as wide-reads
 
 wide-requires : tie.Need-wide-requires
 wide-requires c κs = search needs

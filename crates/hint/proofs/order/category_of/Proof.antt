@@ -1,12 +1,10 @@
+-- `hint::order::category_of` meets its contract: one answer for each daughter.
 use mathlib.Core.Path.{ap}
+use borrow.Author.Needs.{needs}
 use Rattle.phrase.specs.declared.items.Item.{Item}
 use Rattle.hint.proofs.Moving.{seat-last}
-use native.Mathlib.Omega.{arith}
-use borrow.Author.Needs.{needs}
 use Rattle.hint.proofs.order.category_of.Statement.{statement}
 use Rattle.hint.proofs.order.category_of.Tie as tie
-use Rattle.hint.proofs.order.category_of.Reads as reads
-use Rattle.hint.proofs.order.category_of.Lts as lts
 
 returns : tie.Need-returns
 returns c = search needs

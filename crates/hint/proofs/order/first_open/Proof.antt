@@ -1,13 +1,10 @@
-use Rattle.hint.specs.Hint.{next-is}
-use Rattle.phrase.proofs.Fit.{said-yes, said-no}
-use Rattle.hint.proofs.Moving.{none-open}
-use native.Mathlib.Omega.{arith}
+-- `hint::order::first_open` meets its contract: the first of three that is open, or none.
 use borrow.Author.Needs.{needs}
+use Rattle.phrase.proofs.Fit.{said-yes, said-no}
+use Rattle.hint.specs.Hint.{next-is}
+use Rattle.hint.proofs.Moving.{none-open}
 use Rattle.hint.proofs.order.first_open.Statement.{statement}
 use Rattle.hint.proofs.order.first_open.Tie as tie
-use Rattle.hint.proofs.order.first_open.Reads as reads
-use Rattle.hint.proofs.order.first_open.Lts as lts
-use Rattle.hint.proofs.order.is_open.Reads as is-open-reads
 
 is-open-requires : tie.Need-is-open-requires
 is-open-requires c κs = search needs
@@ -28,7 +25,11 @@ returns-3 : tie.Need-returns-3
 returns-3 c = let o = said-yes (c .before .is-open3 .ensures) (c .if3 .taken) in next-is (o .0) (o .1)
 
 returns-4 : tie.Need-returns-4
-returns-4 c = none-open (c .before .before .before .before .before .before .args .d) (c .before .before .before .before .before .before .pre) (said-no (c .before .before .before .before .before .is-open .ensures) (c .before .before .before .before .if1 .left)) (said-no (c .before .before .before .is-open2 .ensures) (c .before .before .if2 .left)) (said-no (c .before .is-open3 .ensures) (c .if3 .left))
+returns-4 c =
+    none-open (c .before .before .before .before .before .before .args .d) (c .before .before .before .before .before .before .pre)
+    (said-no (c .before .before .before .before .before .is-open .ensures) (c .before .before .before .before .if1 .left))
+    (said-no (c .before .before .before .is-open2 .ensures) (c .before .before .if2 .left))
+    (said-no (c .before .is-open3 .ensures) (c .if3 .left))
 
 pub first-open-spec : {M : Type 1} → statement M
 first-open-spec =

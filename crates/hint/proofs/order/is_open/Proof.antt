@@ -1,12 +1,10 @@
+-- `hint::order::is_open` meets its contract: it is there, and has no category yet.
 use mathlib.Core.Path.{sym, _∙_}
-use Rattle.phrase.specs.Phrase.{holds, fails}
 use native.Mathlib.Omega.{arith}
 use borrow.Author.Needs.{needs}
+use Rattle.phrase.specs.Phrase.{holds, fails}
 use Rattle.hint.proofs.order.is_open.Statement.{statement}
 use Rattle.hint.proofs.order.is_open.Tie as tie
-use Rattle.hint.proofs.order.is_open.Reads as reads
-use Rattle.hint.proofs.order.is_open.Lts as lts
-use Rattle.hint.proofs.order.category_of.Reads as category-of-reads
 
 returns : tie.Need-returns
 returns c = fails (λ o. let l = o .0 in omega arith)

@@ -1,12 +1,8 @@
-use Rattle.hint.proofs.Moving.{row-ends}
-use native.Mathlib.Omega.{arith}
+-- `hint::order::turn_at` meets its contract: the bytes of a row that is there are in the table.
 use borrow.Author.Needs.{needs}
+use Rattle.hint.proofs.Moving.{row-ends}
 use Rattle.hint.proofs.order.turn_at.Statement.{statement}
 use Rattle.hint.proofs.order.turn_at.Tie as tie
-use Rattle.hint.proofs.order.turn_at.Reads as reads
-use Rattle.hint.proofs.order.turn_at.Lts as lts
-use Rattle.hint.proofs.order.turn_in.Reads as turn-in-reads
-use Rattle.phrase.proofs.row_of.Reads as row-of-reads
 
 row-of-requires : tie.Need-row-of-requires
 row-of-requires c κs = search needs

@@ -1,16 +1,12 @@
+-- `hint::order::turn_in` meets its contract. The loop's invariant: the symbols that are left are in the table.
 use Prim.Native.Nat.{_+_, _*_, _≤_}
+use native.Mathlib.Omega.{arith}
 use lib.ListN.{length}
+use borrow.Author.Needs.{needs}
 use Rattle.meaning.proofs.Places.{row-is}
 use Rattle.phrase.proofs.Fit.{said-yes}
-use borrow.Author.Needs.{needs}
-use native.Mathlib.Omega.{arith}
 use Rattle.hint.proofs.order.turn_in.Statement.{statement}
 use Rattle.hint.proofs.order.turn_in.Tie as tie
-use Rattle.hint.proofs.order.turn_in.Reads as reads
-use Rattle.hint.proofs.order.turn_in.Lts as lts
-use Rattle.hint.proofs.order.first_of.Reads as first-of-reads
-use Rattle.hint.proofs.order.is_open.Reads as is-open-reads
-use Rattle.table.proofs.byte_at.Reads as byte-at-reads
 
 abbrev Inv-loop : tie.InvT-loop
 Inv-loop table place d left₀ at₀ left at = at + 3 * left ≤ length table

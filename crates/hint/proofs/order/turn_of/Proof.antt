@@ -1,13 +1,9 @@
+-- `hint::order::turn_of` meets its contract. The loop's invariant: there are three rows at most.
 use Prim.Native.Nat.{_≤_, _-_}
-use Rattle.hint.proofs.Moving.{named-next}
 use borrow.Author.Needs.{needs}
-use native.Mathlib.Omega.{arith}
+use Rattle.hint.proofs.Moving.{named-next}
 use Rattle.hint.proofs.order.turn_of.Statement.{statement}
 use Rattle.hint.proofs.order.turn_of.Tie as tie
-use Rattle.hint.proofs.order.turn_of.Reads as reads
-use Rattle.hint.proofs.order.turn_of.Lts as lts
-use Rattle.hint.proofs.order.first_open.Reads as first-open-reads
-use Rattle.hint.proofs.order.turn_at.Reads as turn-at-reads
 
 abbrev Inv-loop : tie.InvT-loop
 Inv-loop table rule d i₀ i = i ≤ 3

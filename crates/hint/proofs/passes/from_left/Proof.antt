@@ -1,23 +1,18 @@
-use Prim.Native.Nat.{ℕ, suc, _+_, _*_, _-_, _≤_}
-use mathlib.Core.Path.{_≡_, ap, sym, _∙_}
+-- `hint::passes::from_left` meets its contract. The loop's invariant: what is asked so far is met by every way to run the row, and each has a walk over the symbols that are left.
+use mathlib.Core.Path.{_≡_, ap}
+use Prim.Native.Nat.{suc, _+_, _*_, _-_}
+use native.Mathlib.Omega.{arith}
+use borrow.Author.Needs.{needs}
 use Rattle.meaning.specs.Decode.{symbolAt, rowEnd}
 use Rattle.meaning.proofs.Places.{row-is}
 use Rattle.hint.proofs.Chains.{on}
 use Rattle.hint.proofs.Sharpening.{PassOn, on-first, pass-on}
-use borrow.Author.Needs.{needs}
-use native.Mathlib.Omega.{arith}
 use Rattle.hint.proofs.passes.from_left.Statement.{statement}
 use Rattle.hint.proofs.passes.from_left.Tie as tie
-use Rattle.hint.proofs.passes.from_left.Reads as reads
-use Rattle.hint.proofs.passes.from_left.Lts as lts
-use Rattle.hint.proofs.passes.ask_start.Reads as ask-start-reads
-use Rattle.hint.proofs.steps.asked.Reads as asked-reads
-use Rattle.hint.proofs.steps.part_at.Reads as part-at-reads
-use Rattle.hint.proofs.steps.step_on.Reads as step-on-reads
-use Rattle.table.proofs.byte_at.Reads as byte-at-reads
 
 abbrev Inv-loop : tie.InvT-loop
-Inv-loop table place words d k left₀ at₀ here₀ r₀ left at here r = (at + 3 * left ≡ rowEnd table place) × PassOn table words place d k here₀ r₀ left here r
+Inv-loop table place words d k left₀ at₀ here₀ r₀ left at here r =
+    (at + 3 * left ≡ rowEnd table place) × PassOn table words place d k here₀ r₀ left here r
 
 abbrev μ-loop : tie.MeasureT-loop
 μ-loop table place words d k left₀ at₀ here₀ r₀ left at here r = left
@@ -29,7 +24,10 @@ add-at : tie.Need-add-at Inv-loop μ-loop
 add-at c = omega (arith, row-is (c .before .before .before .args .table .now) (c .before .before .before .args .place))
 
 loop-holds : tie.Need-loop-holds Inv-loop μ-loop
-loop-holds c = let a = c .before .before .before .args in (omega (arith, row-is (a .table .now) (a .place), c .byte-at .ensures .0), on-first (a .table .now) (a .words .now) (a .place) (a .d) (a .k) (a .s) (a .w) (c .byte-at .ensures .0))
+loop-holds c =
+    let a = c .before .before .before .args in
+    let e = c .byte-at .ensures .0 in
+    (omega (arith, row-is (a .table .now) (a .place)), on-first (a .table .now) (a .words .now) (a .place) (a .d) (a .k) (a .s) (a .w) e)
 
 part-at-requires : tie.Need-part-at-requires Inv-loop μ-loop
 part-at-requires c κs = let e = c .before .loop .inv .0 in omega arith
@@ -55,12 +53,13 @@ loop-less c = omega arith
 loop-again : tie.Need-loop-again Inv-loop μ-loop
 loop-again c =
     let l = c .before .before .before .before .before .loop in
-    let t = c .before .before .before .before .before .before .before .before .before .args .table .now in
+    let a = c .before .before .before .before .before .before .before .before .before .args in
     let e = l .inv .0 in
-    let end : ℕ = rowEnd t (c .before .before .before .before .before .before .before .before .before .args .place) in
     let one : l .left ≡ suc (l .left - 1) = omega arith in
-    let there : end - 3 * suc (l .left - 1) ≡ l .at = omega arith in
-    (omega arith, pass-on on one (ap (symbolAt t) there) (c .step-on .ensures) (c .before .before .before .part-at .ensures) (c .before .before .asked .ensures) (c .before .ask-start .ensures) (l .inv .1))
+    let there : rowEnd (a .table .now) (a .place) - 3 * suc (l .left - 1) ≡ l .at = omega arith in (
+      omega arith,
+      pass-on on one (ap (symbolAt (a .table .now)) there) (c .step-on .ensures) (c .before .before .before .part-at .ensures) (c .before .before .asked .ensures) (c .before .ask-start .ensures) (l .inv .1),
+    )
 
 returns : tie.Need-returns Inv-loop μ-loop
 returns c = c .before .loop .inv .1 .asked

@@ -1,25 +1,19 @@
-use Prim.Native.Nat.{ℕ, suc, _+_, _*_, _-_, _≤_}
-use mathlib.Core.Path.{_≡_, ap, sym, _∙_}
+-- `hint::passes::from_right` meets its contract. The loop's invariant: what is asked so far is met by every way to run the row, and each has a walk back over the symbols that are left.
+use mathlib.Core.Path.{_≡_, ap}
+use Prim.Native.Nat.{suc, _+_, _*_, _-_, _≤_}
+use native.Mathlib.Omega.{arith}
+use borrow.Author.Needs.{needs}
 use Rattle.meaning.specs.Table.{byte}
-use Rattle.meaning.specs.Decode.{symbolAt, rowEnd}
+use Rattle.meaning.specs.Decode.{symbolAt}
 use Rattle.meaning.proofs.Places.{row-is}
 use Rattle.hint.proofs.Chains.{back}
 use Rattle.hint.proofs.Sharpening.{PassBack, back-first, pass-on}
-use borrow.Author.Needs.{needs}
-use native.Mathlib.Omega.{arith}
 use Rattle.hint.proofs.passes.from_right.Statement.{statement}
 use Rattle.hint.proofs.passes.from_right.Tie as tie
-use Rattle.hint.proofs.passes.from_right.Reads as reads
-use Rattle.hint.proofs.passes.from_right.Lts as lts
-use Rattle.hint.proofs.passes.ask_end.Reads as ask-end-reads
-use Rattle.hint.proofs.steps.asked.Reads as asked-reads
-use Rattle.hint.proofs.steps.part_at.Reads as part-at-reads
-use Rattle.hint.proofs.steps.step_back.Reads as step-back-reads
-use Rattle.table.proofs.byte_at.Reads as byte-at-reads
-use Rattle.table.proofs.row_end.Reads as row-end-reads
 
 abbrev Inv-loop : tie.InvT-loop
-Inv-loop table place words d k left₀ at₀ here₀ r₀ left at here r = (at ≡ place + 1 + 3 * left) × (left ≤ byte table place) × PassBack table words place d k here₀ r₀ left here r
+Inv-loop table place words d k left₀ at₀ here₀ r₀ left at here r =
+    (at ≡ place + 1 + 3 * left) × (left ≤ byte table place) × PassBack table words place d k here₀ r₀ left here r
 
 abbrev μ-loop : tie.MeasureT-loop
 μ-loop table place words d k left₀ at₀ here₀ r₀ left at here r = left
@@ -33,13 +27,21 @@ row-end-requires c κs = search needs
 loop-holds : tie.Need-loop-holds Inv-loop μ-loop
 loop-holds c =
     let a = c .before .before .before .before .args in
-    (omega (arith, row-is (a .table .now) (a .place), c .row-end .ensures, c .before .byte-at .ensures .0), omega (arith, c .before .byte-at .ensures .0), back-first (a .table .now) (a .words .now) (a .place) (a .d) (a .k) (a .s) (a .w) (c .before .byte-at .ensures .0))
+    let e = c .before .byte-at .ensures .0 in (
+      omega (arith, row-is (a .table .now) (a .place), c .row-end .ensures),
+      omega arith,
+      back-first (a .table .now) (a .words .now) (a .place) (a .d) (a .k) (a .s) (a .w) e,
+    )
 
 sub-at : tie.Need-sub-at Inv-loop μ-loop
 sub-at c = let e = c .before .loop .inv .0 in omega arith
 
 part-at-requires : tie.Need-part-at-requires Inv-loop μ-loop
-part-at-requires c κs = let e = c .before .loop .inv .0 in let b = c .before .loop .inv .1 in omega (arith, row-is (c .before .before .before .before .before .before .args .table .now) (c .before .before .before .before .before .before .args .place), c .before .before .before .before .before .before .pre)
+part-at-requires c κs =
+    let a = c .before .before .before .before .before .before .args in
+    let e = c .before .loop .inv .0 in
+    let b = c .before .loop .inv .1 in
+    omega (arith, row-is (a .table .now) (a .place), c .before .before .before .before .before .before .pre)
 
 asked-requires : tie.Need-asked-requires Inv-loop μ-loop
 asked-requires c κs = search needs
@@ -48,7 +50,11 @@ ask-end-requires : tie.Need-ask-end-requires Inv-loop μ-loop
 ask-end-requires c κs = search needs
 
 step-back-requires : tie.Need-step-back-requires Inv-loop μ-loop
-step-back-requires c κs = let e = c .before .before .before .before .loop .inv .0 in let b = c .before .before .before .before .loop .inv .1 in omega (arith, row-is (c .before .before .before .before .before .before .before .before .before .args .table .now) (c .before .before .before .before .before .before .before .before .before .args .place), c .before .before .before .before .before .before .before .before .before .pre)
+step-back-requires c κs =
+    let a = c .before .before .before .before .before .before .before .before .before .args in
+    let e = c .before .before .before .before .loop .inv .0 in
+    let b = c .before .before .before .before .loop .inv .1 in
+    omega (arith, row-is (a .table .now) (a .place), c .before .before .before .before .before .before .before .before .before .pre)
 
 sub-left : tie.Need-sub-left Inv-loop μ-loop
 sub-left c = search needs
@@ -59,12 +65,15 @@ loop-less c = omega arith
 loop-again : tie.Need-loop-again Inv-loop μ-loop
 loop-again c =
     let l = c .before .before .before .before .before .loop in
-    let t = c .before .before .before .before .before .before .before .before .before .before .args .table .now in
+    let a = c .before .before .before .before .before .before .before .before .before .before .args in
     let e = l .inv .0 in
     let b = l .inv .1 in
     let one : l .left ≡ suc (l .left - 1) = omega arith in
-    let there : c .before .before .before .before .before .before .before .before .before .before .args .place + 1 + 3 * (l .left - 1) ≡ l .at - 3 = omega arith in
-    (omega arith, omega arith, pass-on back one (ap (symbolAt t) there) (c .step-back .ensures) (c .before .before .before .part-at .ensures) (c .before .before .asked .ensures) (c .before .ask-end .ensures) (l .inv .2))
+    let there : a .place + 1 + 3 * (l .left - 1) ≡ l .at - 3 = omega arith in (
+      omega arith,
+      omega arith,
+      pass-on back one (ap (symbolAt (a .table .now)) there) (c .step-back .ensures) (c .before .before .before .part-at .ensures) (c .before .before .asked .ensures) (c .before .ask-end .ensures) (l .inv .2),
+    )
 
 returns : tie.Need-returns Inv-loop μ-loop
 returns c = c .before .loop .inv .2 .asked

@@ -1,12 +1,10 @@
+-- `hint::passes::opening` meets its contract: the start of the item's range.
 use mathlib.Core.Path.{ap, sym, _∙_}
-use Rattle.meaning.specs.Range.{Range}
 use native.Mathlib.Omega.{arith}
 use borrow.Author.Needs.{needs}
+use Rattle.meaning.specs.Range.{Range}
 use Rattle.hint.proofs.passes.opening.Statement.{statement}
 use Rattle.hint.proofs.passes.opening.Tie as tie
-use Rattle.hint.proofs.passes.opening.Reads as reads
-use Rattle.hint.proofs.passes.opening.Lts as lts
-use Rattle.phrase.proofs.range_at.Reads as range-at-reads
 
 returns : tie.Need-returns
 returns c = search needs
@@ -15,7 +13,9 @@ range-at-requires : tie.Need-range-at-requires
 range-at-requires c κs = search needs
 
 returns-2 : tie.Need-returns-2
-returns-2 c = λ q want h. let e = ap (λ (r : Range). r .to) (want (c .before .before .before .if1 .left) ∙ sym (c .before .before .range-at .ensures .0)) in omega (arith, c .if2 .taken)
+returns-2 c = λ q want h.
+    let e = ap (λ (r : Range). r .to) (want (c .before .before .before .if1 .left) ∙ sym (c .before .before .range-at .ensures .0)) in
+    omega (arith, c .if2 .taken)
 
 returns-3 : tie.Need-returns-3
 returns-3 c = λ q want h. ap (λ (r : Range). r .from) (want (c .before .before .before .if1 .left) ∙ sym (c .before .before .range-at .ensures .0))

@@ -1,18 +1,11 @@
+-- `hint::passes::row_asks` meets its contract: what both walks ask, one after the other.
 use mathlib.Core.Path.{sym, ap, _∙_}
+use borrow.Author.Needs.{needs}
 use Rattle.phrase.specs.Phrase.{symbolsOf}
 use Rattle.hint.proofs.Moving.{row-ends}
 use Rattle.hint.proofs.Sharpening.{sharper-none, sharper-then, ways-as}
-use native.Mathlib.Omega.{arith}
-use borrow.Author.Needs.{needs}
 use Rattle.hint.proofs.passes.row_asks.Statement.{statement}
 use Rattle.hint.proofs.passes.row_asks.Tie as tie
-use Rattle.hint.proofs.passes.row_asks.Reads as reads
-use Rattle.hint.proofs.passes.row_asks.Lts as lts
-use Rattle.hint.proofs.passes.closing.Reads as closing-reads
-use Rattle.hint.proofs.passes.from_left.Reads as from-left-reads
-use Rattle.hint.proofs.passes.from_right.Reads as from-right-reads
-use Rattle.hint.proofs.passes.opening.Reads as opening-reads
-use Rattle.phrase.proofs.row_of.Reads as row-of-reads
 
 row-of-requires : tie.Need-row-of-requires
 row-of-requires c κs = search needs
@@ -41,7 +34,8 @@ from-right-requires c κs = row-ends (c .before .before .before .before .before 
 returns-2 : tie.Need-returns-2
 returns-2 c =
     let e = sym (c .before .before .before .before .before .before .before .row-of .ensures .symbols) ∙ ap (symbolsOf (c .before .before .before .before .before .before .before .before .before .before .args .table .now)) (c .before .before .before .before .before .place .given .1) in
-    sharper-then (sharper-then sharper-none (ways-as e (c .before .before .before .opening .ensures)) (c .before .before .from-left .ensures)) (ways-as e (c .before .closing .ensures)) (c .from-right .ensures)
+    let starts = sharper-then sharper-none (ways-as e (c .before .before .before .opening .ensures)) (c .before .before .from-left .ensures) in
+    sharper-then starts (ways-as e (c .before .closing .ensures)) (c .from-right .ensures)
 
 pub row-asks-spec : {M : Type 1} → statement M
 row-asks-spec =

@@ -1,13 +1,10 @@
+-- `hint::steps::asked` meets its contract: one answer for each state.
 use mathlib.Core.Logic.{inl, inr}
 use mathlib.Core.Path.{refl, sym, _∙_}
-use Rattle.hint.proofs.Moving.{at-place, no-place}
-use native.Mathlib.Omega.{arith}
 use borrow.Author.Needs.{needs}
+use Rattle.hint.proofs.Moving.{at-place, no-place}
 use Rattle.hint.proofs.steps.asked.Statement.{statement}
 use Rattle.hint.proofs.steps.asked.Tie as tie
-use Rattle.hint.proofs.steps.asked.Reads as reads
-use Rattle.hint.proofs.steps.asked.Lts as lts
-use Rattle.hint.proofs.steps.wide.Reads as wide-reads
 
 enum-told : tie.Need-enum-told
 enum-told c = search needs

@@ -1,14 +1,10 @@
-use mathlib.Core.Path.{ap, sym, _∙_}
-use Rattle.hint.proofs.Moving.{part-named}
+-- `hint::steps::part_at` meets its contract: the symbol's kind and number.
+use mathlib.Core.Path.{sym, _∙_}
 use native.Mathlib.Omega.{arith}
 use borrow.Author.Needs.{needs}
+use Rattle.hint.proofs.Moving.{part-named}
 use Rattle.hint.proofs.steps.part_at.Statement.{statement}
 use Rattle.hint.proofs.steps.part_at.Tie as tie
-use Rattle.hint.proofs.steps.part_at.Reads as reads
-use Rattle.hint.proofs.steps.part_at.Lts as lts
-use Rattle.hint.proofs.steps.less.Reads as less-reads
-use Rattle.table.proofs.byte_at.Reads as byte-at-reads
-use Rattle.table.proofs.number_at.Reads as number-at-reads
 
 add-second : tie.Need-add-second
 add-second c = search needs
@@ -32,7 +28,10 @@ less-requires-2 : tie.Need-less-requires-2
 less-requires-2 c κs = search needs
 
 returns-3 : tie.Need-returns-3
-returns-3 c = λ h. part-named (c .before .before .before .before .before .before .before .args .table .now) (c .before .before .before .before .before .before .before .args .at) (c .before .before .before .before .before .byte-at .ensures .0) (c .before .number-at .ensures) (c .before .before .before .before .if1 .left) (sym (c .before .before .before .less .ensures) ∙ c .before .before .if2 .left) (c .less2 .ensures)
+returns-3 c = λ h.
+    let a = c .before .before .before .before .before .before .before .args in
+    part-named (a .table .now) (a .at) (c .before .before .before .before .before .byte-at .ensures .0) (c .before .number-at .ensures) (c .before .before .before .before .if1 .left)
+    (sym (c .before .before .before .less .ensures) ∙ c .before .before .if2 .left) (c .less2 .ensures)
 
 pub part-at-spec : {M : Type 1} → statement M
 part-at-spec =

@@ -1,15 +1,8 @@
-use Rattle.hint.proofs.Moving.{over-word, over-part, moved-back}
-use native.Mathlib.Omega.{arith}
+-- `hint::steps::step_back` meets its contract: a word, or a part.
 use borrow.Author.Needs.{needs}
+use Rattle.hint.proofs.Moving.{over-word, over-part, moved-back}
 use Rattle.hint.proofs.steps.step_back.Statement.{statement}
 use Rattle.hint.proofs.steps.step_back.Tie as tie
-use Rattle.hint.proofs.steps.step_back.Reads as reads
-use Rattle.hint.proofs.steps.step_back.Lts as lts
-use Rattle.hint.proofs.steps.less.Reads as less-reads
-use Rattle.hint.proofs.steps.part_back.Reads as part-back-reads
-use Rattle.hint.proofs.steps.word_back.Reads as word-back-reads
-use Rattle.table.proofs.byte_at.Reads as byte-at-reads
-use Rattle.table.proofs.number_at.Reads as number-at-reads
 
 add-second : tie.Need-add-second
 add-second c = search needs
@@ -24,7 +17,9 @@ word-back-requires : tie.Need-word-back-requires
 word-back-requires c κs = search needs
 
 returns : tie.Need-returns
-returns c = λ e p kn st. c .word-back .ensures p (over-word (c .before .before .before .before .before .before .args .table .now) (c .before .before .before .before .before .before .args .at) (c .before .before .before .byte-at .ensures .0) (c .before .before .number-at .ensures) (c .before .before .before .before .before .before .args .words .now) e p st (c .before .if1 .taken))
+returns c = λ e p kn st.
+    let a = c .before .before .before .before .before .before .args in
+    c .word-back .ensures p (over-word (a .table .now) (a .at) (c .before .before .before .byte-at .ensures .0) (c .before .before .number-at .ensures) (a .words .now) e p st (c .before .if1 .taken))
 
 less-requires : tie.Need-less-requires
 less-requires c κs = search needs
@@ -36,7 +31,11 @@ part-back-requires : tie.Need-part-back-requires
 part-back-requires c κs = search needs
 
 returns-2 : tie.Need-returns-2
-returns-2 c = λ e p kn st. moved-back (over-part (c .before .before .before .before .before .before .before .before .args .table .now) (c .before .before .before .before .before .before .before .before .args .at) (c .before .before .before .before .before .byte-at .ensures .0) (c .before .before .before .before .number-at .ensures) (c .before .before .before .before .before .before .before .before .args .words .now) e p st (c .before .before .before .if1 .left) (c .before .before .less .ensures) (c .before .less2 .ensures)) (c .part-back .ensures e kn)
+returns-2 c = λ e p kn st.
+    let a = c .before .before .before .before .before .before .before .before .args in
+    moved-back
+    (over-part (a .table .now) (a .at) (c .before .before .before .before .before .byte-at .ensures .0) (c .before .before .before .before .number-at .ensures) (a .words .now) e p st (c .before .before .before .if1 .left) (c .before .before .less .ensures) (c .before .less2 .ensures))
+    (c .part-back .ensures e kn)
 
 pub step-back-spec : {M : Type 1} → statement M
 step-back-spec =

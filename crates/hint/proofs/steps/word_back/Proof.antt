@@ -1,10 +1,8 @@
-use Rattle.hint.proofs.Moving.{moves-free, never-on, back-first, back-past, back-other, back-next}
-use native.Mathlib.Omega.{arith}
+-- `hint::steps::word_back` meets its contract: the word stands just before the place, or nowhere.
 use borrow.Author.Needs.{needs}
+use Rattle.hint.proofs.Moving.{moves-free, never-on, back-first, back-past, back-other, back-next}
 use Rattle.hint.proofs.steps.word_back.Statement.{statement}
 use Rattle.hint.proofs.steps.word_back.Tie as tie
-use Rattle.hint.proofs.steps.word_back.Reads as reads
-use Rattle.hint.proofs.steps.word_back.Lts as lts
 
 enum-told : tie.Need-enum-told
 enum-told c = search needs

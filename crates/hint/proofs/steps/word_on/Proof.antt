@@ -1,10 +1,8 @@
-use Rattle.hint.proofs.Moving.{moves-free, never-on, on-past, on-other, on-next}
-use native.Mathlib.Omega.{arith}
+-- `hint::steps::word_on` meets its contract: the word stands at the place, or nowhere.
 use borrow.Author.Needs.{needs}
+use Rattle.hint.proofs.Moving.{moves-free, never-on, on-past, on-other, on-next}
 use Rattle.hint.proofs.steps.word_on.Statement.{statement}
 use Rattle.hint.proofs.steps.word_on.Tie as tie
-use Rattle.hint.proofs.steps.word_on.Reads as reads
-use Rattle.hint.proofs.steps.word_on.Lts as lts
 
 enum-told : tie.Need-enum-told
 enum-told c = search needs

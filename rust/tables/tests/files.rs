@@ -1,0 +1,33 @@
+//! The files in `tables/` are what their clauses say, and no file is without.
+
+use std::path::{Path, PathBuf};
+
+fn folder() -> PathBuf {
+    Path::new(env!("CARGO_MANIFEST_DIR")).join("../../tables")
+}
+
+#[test]
+fn each_file_is_what_is_built() {
+    for (name, text) in tables::worked::FILES {
+        let bytes = std::fs::read(folder().join(name)).expect("cargo run -p tables writes it");
+        assert_eq!(bytes, tables::table(text), "{name}");
+    }
+}
+
+#[test]
+fn every_table_file_is_built_here() {
+    let known: Vec<&str> = tables::worked::FILES.iter().map(|(name, _)| *name).collect();
+    for entry in std::fs::read_dir(folder()).expect("the folder tables/ is there") {
+        let name = entry.expect("its entries can be read").file_name();
+        let name = name.to_str().expect("names are plain");
+        assert!(!name.ends_with(".mcg") || known.contains(&name), "{name}");
+    }
+}
+
+#[test]
+fn the_readme_speaks_of_each_file() {
+    let readme = std::fs::read_to_string(folder().join("README.md")).expect("it is there");
+    for (name, _) in tables::worked::FILES {
+        assert!(readme.contains(name), "{name}");
+    }
+}

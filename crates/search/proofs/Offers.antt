@@ -180,8 +180,19 @@ module _ {t ws : List ℕ} {rule : ℕ} {goal : CodedItem} {d : Daughters} {K : 
   unfolding ruleAt
   tried-offered x w =
       let g = gives-picked x w in
-      record { range = unpacked x .one; has = g .rows 0; does = record { range = unpacked x .two; has = g .rows 1; does = record { range = unpacked x .three; has = g .rows 2;
-        does = λ i. record { category = g .kind i; one = unpacked x .one; two = unpacked x .two; three = unpacked x .three } } } }
+      record {
+        range = unpacked x .one;
+        has = g .rows 0;
+        does = record {
+          range = unpacked x .two;
+          has = g .rows 1;
+          does = record {
+            range = unpacked x .three;
+            has = g .rows 2;
+            does = λ i. record { category = g .kind i; one = unpacked x .one; two = unpacked x .two; three = unpacked x .three };
+          };
+        };
+      }
 
   pub offered-tried : goal .height ≡ topOf d + 1 → categories (itemsOf d) ≡ ruleAt t rule .daughters → (x : ℕ) → Offered t ws rule d x → Tried t ws rule goal d K x
   unfolding ruleAt

@@ -2,16 +2,14 @@
 mod spots;
 mod trying;
 
+use crate::trying::combine;
 pub use spots::Spots;
 pub use spots::first;
 pub use spots::next;
 pub use spots::spots_of;
-
-use crate::trying::combine;
 use table::first_rule;
 use table::rule_count;
 use table::rule_end;
-
 ghost use mathlib.Core.Path.{_≡_};
 ghost use Prim.Native.Nat.{ℕ, _+_, _-_, _*_, _<_, _≤_, _^_};
 ghost use lib.ListN.{length};
@@ -54,7 +52,15 @@ fn level(table: &[u8], words: &[u16], known: &[u64], fresh: &mut [u64], h: u64) 
 }
 
 // One level more: how many items are new, or more than there is room for.
-fn advance(table: &[u8], words: &[u16], known: &mut [u64], k: usize, fresh: &mut [u64], room: usize, h: u64) -> usize
+fn advance(
+    table: &[u8],
+    words: &[u16],
+    known: &mut [u64],
+    k: usize,
+    fresh: &mut [u64],
+    room: usize,
+    h: u64,
+) -> usize
     requires { ⌜ Begun (KeyMade (now table) (now words)) room h k (now known) (now fresh) ⌝ }
     requires { ⌜ (checkTable (now table) ≡ got tt) × (length (now words) ≤ 64) ⌝ }
     ensures { λ r. ⌜ Advanced (KeyMade (now (table .entry)) (now (words .entry))) room h k (now (known .exit)) r ⌝ }

@@ -106,7 +106,18 @@ fn key_of(category: u16, p: Range, q: Range, r: Range) -> u64
 }
 
 // Enters the items with two ranges, and as third each that the third row can have.
-fn offer_third(table: &[u8], words: &[u16], rule: usize, d: Daughters, p: Range, q: Range, known: &[u64], fresh: &mut [u64], n: usize, h: u64) -> usize
+fn offer_third(
+    table: &[u8],
+    words: &[u16],
+    rule: usize,
+    d: Daughters,
+    p: Range,
+    q: Range,
+    known: &[u64],
+    fresh: &mut [u64],
+    n: usize,
+    h: u64,
+) -> usize
     requires { ⌜ Ready (now known) h (now fresh) n ⌝ }
     requires { ⌜ RuleOf (now table) rule × (length (now words) ≤ 64) × Short (rangeOf p) × Short (rangeOf q) ⌝ }
     ensures { λ m. ⌜ Filled (now (known .entry)) h (Ranged (now (words .entry)) d (rowOf (now (table .entry)) rule 2) (λ r x. code.unpacked x ≡ record { category = categoryOf (now (table .entry)) rule; one = rangeOf p; two = rangeOf q; three = r })) (now (fresh .entry)) n (now (fresh .exit)) m ⌝ }
@@ -129,7 +140,17 @@ fn offer_third(table: &[u8], words: &[u16], rule: usize, d: Daughters, p: Range,
 }
 
 // Enters the items with a first range, and as the others each that the rows can have.
-fn offer_second(table: &[u8], words: &[u16], rule: usize, d: Daughters, p: Range, known: &[u64], fresh: &mut [u64], n: usize, h: u64) -> usize
+fn offer_second(
+    table: &[u8],
+    words: &[u16],
+    rule: usize,
+    d: Daughters,
+    p: Range,
+    known: &[u64],
+    fresh: &mut [u64],
+    n: usize,
+    h: u64,
+) -> usize
     requires { ⌜ Ready (now known) h (now fresh) n ⌝ }
     requires { ⌜ RuleOf (now table) rule × (length (now words) ≤ 64) × Short (rangeOf p) ⌝ }
     ensures { λ m. ⌜ Filled (now (known .entry)) h (Ranged (now (words .entry)) d (rowOf (now (table .entry)) rule 1) (λ q. Ranged (now (words .entry)) d (rowOf (now (table .entry)) rule 2) (λ r x. code.unpacked x ≡ record { category = categoryOf (now (table .entry)) rule; one = rangeOf p; two = q; three = r }))) (now (fresh .entry)) n (now (fresh .exit)) m ⌝ }
@@ -150,7 +171,16 @@ fn offer_second(table: &[u8], words: &[u16], rule: usize, d: Daughters, p: Range
 }
 
 // Enters the items whose ranges are those that the rows can have.
-fn offer_rows(table: &[u8], words: &[u16], rule: usize, d: Daughters, known: &[u64], fresh: &mut [u64], n: usize, h: u64) -> usize
+fn offer_rows(
+    table: &[u8],
+    words: &[u16],
+    rule: usize,
+    d: Daughters,
+    known: &[u64],
+    fresh: &mut [u64],
+    n: usize,
+    h: u64,
+) -> usize
     requires { ⌜ Ready (now known) h (now fresh) n ⌝ }
     requires { ⌜ RuleOf (now table) rule × (length (now words) ≤ 64) ⌝ }
     ensures { λ m. ⌜ Filled (now (known .entry)) h (Offered (now (table .entry)) (now (words .entry)) rule d) (now (fresh .entry)) n (now (fresh .exit)) m ⌝ }
@@ -171,7 +201,16 @@ fn offer_rows(table: &[u8], words: &[u16], rule: usize, d: Daughters, known: &[u
 }
 
 // Enters what the rule gives with these daughters, all of them chosen, at height h.
-fn offer(table: &[u8], words: &[u16], rule: usize, goal: Item, d: Daughters, known: &[u64], fresh: &mut [u64], n: usize) -> usize
+fn offer(
+    table: &[u8],
+    words: &[u16],
+    rule: usize,
+    goal: Item,
+    d: Daughters,
+    known: &[u64],
+    fresh: &mut [u64],
+    n: usize,
+) -> usize
     requires { ⌜ Ready (now known) (goal .height) (now fresh) n ⌝ }
     requires { ⌜ Trying (now table) (now words) rule goal d (now known) 0 ⌝ }
     requires { ⌜ AllChosen d ⌝ }
@@ -199,19 +238,52 @@ fn spots_for(table: &[u8], rule: usize, k: usize, w: Wants, known: &[u64]) -> Sp
 }
 
 // Enters what the rule gives with a known item as daughter k, if it is as asked; left daughters more are not chosen.
-fn try_code(table: &[u8], words: &[u16], rule: usize, goal: Item, d: Daughters, k: usize, left: usize, w: Wants, c: u64, known: &[u64], fresh: &mut [u64], n: usize) -> usize
+fn try_code(
+    table: &[u8],
+    words: &[u16],
+    rule: usize,
+    goal: Item,
+    d: Daughters,
+    k: usize,
+    left: usize,
+    w: Wants,
+    c: u64,
+    known: &[u64],
+    fresh: &mut [u64],
+    n: usize,
+) -> usize
     requires { ⌜ Ready (now known) (goal .height) (now fresh) n ⌝ }
     requires { ⌜ Trial (now table) (now words) rule goal d (now known) k left w c ⌝ }
     ensures { λ m. ⌜ Filled (now (known .entry)) (goal .height) (Tried (now (table .entry)) (now (words .entry)) rule goal (put d k (coded c)) (now (known .entry))) (now (fresh .entry)) n (now (fresh .exit)) m ⌝ }
 {
     if meets(w, c) {
-        return extend(table, words, rule, goal, with(d, k, unpack(c)), left, known, fresh, n);
+        return extend(
+            table,
+            words,
+            rule,
+            goal,
+            with(d, k, unpack(c)),
+            left,
+            known,
+            fresh,
+            n,
+        );
     }
     n
 }
 
 // Enters what the rule gives with these daughters, and known ones where left of them are not chosen yet.
-fn extend(table: &[u8], words: &[u16], rule: usize, goal: Item, d: Daughters, left: usize, known: &[u64], fresh: &mut [u64], n: usize) -> usize
+fn extend(
+    table: &[u8],
+    words: &[u16],
+    rule: usize,
+    goal: Item,
+    d: Daughters,
+    left: usize,
+    known: &[u64],
+    fresh: &mut [u64],
+    n: usize,
+) -> usize
     requires { ⌜ Ready (now known) (goal .height) (now fresh) n ⌝ }
     requires { ⌜ Trying (now table) (now words) rule goal d (now known) left ⌝ }
     ensures { λ m. ⌜ Filled (now (known .entry)) (goal .height) (Tried (now (table .entry)) (now (words .entry)) rule goal d (now (known .entry))) (now (fresh .entry)) n (now (fresh .exit)) m ⌝ }
@@ -227,7 +299,20 @@ fn extend(table: &[u8], words: &[u16], rule: usize, goal: Item, d: Daughters, le
     let mut m = n;
     let mut i = first(s);
     while i < end {
-        m = try_code(table, words, rule, goal, d, k, fewer, w, known[i], known, fresh, m);
+        m = try_code(
+            table,
+            words,
+            rule,
+            goal,
+            d,
+            k,
+            fewer,
+            w,
+            known[i],
+            known,
+            fresh,
+            m,
+        );
         if fresh.len() < m {
             return m;
         }
@@ -261,12 +346,30 @@ fn none_of(count: usize) -> Daughters
 }
 
 // Enters what the rule gives from known items at a height.
-pub fn combine(table: &[u8], words: &[u16], rule: usize, known: &[u64], fresh: &mut [u64], n: usize, h: u16) -> usize
+pub fn combine(
+    table: &[u8],
+    words: &[u16],
+    rule: usize,
+    known: &[u64],
+    fresh: &mut [u64],
+    n: usize,
+    h: u16,
+) -> usize
     requires { ⌜ Ready (now known) h (now fresh) n ⌝ }
     requires { ⌜ Trying (now table) (now words) rule (blankItem h) (noneOf (rankOf (now table) rule)) (now known) (rankOf (now table) rule) ⌝ }
     ensures { λ m. ⌜ Filled (now (known .entry)) h (Tried (now (table .entry)) (now (words .entry)) rule (blankItem h) (noneOf (rankOf (now (table .entry)) rule)) (now (known .entry))) (now (fresh .entry)) n (now (fresh .exit)) m ⌝ }
 {
     let fourth = rule + 3;
     let rank = size(byte_at(table, fourth));
-    extend(table, words, rule, blank_item(h), none_of(rank), rank, known, fresh, n)
+    extend(
+        table,
+        words,
+        rule,
+        blank_item(h),
+        none_of(rank),
+        rank,
+        known,
+        fresh,
+        n,
+    )
 }

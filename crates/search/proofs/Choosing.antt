@@ -193,23 +193,20 @@ trying-on {d = d} {K = K} k c next T l o m e = record {
         go (inl q) = record { code = c; there = m; is = sym (coded-known c) ∙ ap heldAs (sym (put-same d k (coded c)) ∙ ap (seat (put d k (coded c))) (sym q)) }
         go (inr q) = let u = put-other d k j (coded c) (omega arith) (omega (arith, b)) q in rw u (T .drawn j b (λ y. z (rw u y)))
 
--- whoever does something as daughter k is of the wanted category, and as asked
-module _ {t ws : List ℕ} {rule : ℕ} {goal : CodedItem} {d : Daughters} {K : List ℕ} {left : ℕ} (T : Trying t ws rule goal d K left) (k : ℕ) (below : k < d .count) (o : Open d k) (c : ℕ) (m : Mem c K) (x : ℕ)
-    (w : Tried t ws rule goal (put d k (coded c)) K x) where
-  at-seat : getD (w .full) k unknown ≡ knownOf c
-  at-seat =
-      w .completes .keeps k (rw (put-count d k (coded c)) below)
-      (λ z. coded-full c (T .codes c m .0) (rw (put-same d k (coded c)) at z))
-      ∙ ap heldAs (put-same d k (coded c)) ∙ coded-known c
+-- whoever is daughter k where something is done is of the wanted category, and as asked
+module _ {t ws : List ℕ} {rule : ℕ} {goal : CodedItem} (d : Daughters) (few : d .count ≤ 3) (k : ℕ) (below : k < d .count) (o : Open d k) (c : ℕ) (kind : 1 ≤ knownOf c .item .category) {full : List (Known Item)} {x : Item}
+    (C : Completes (put d k (coded c)) full) (D : Does t ws rule goal full x) where
+  at-seat : getD full k unknown ≡ knownOf c
+  at-seat = C .keeps k (rw (put-count d k (coded c)) below) (λ z. coded-full c kind (rw (put-same d k (coded c)) at z)) ∙ ap heldAs (put-same d k (coded c)) ∙ coded-known c
 
-  pub tried-meets : (v : Wants) → Asks t ws rule d goal k v → Meets v (knownOf c)
-  tried-meets v f = rw at-seat at (f (w .full) (unpacked x) (fewer d (T .partial .few) k below o (coded c) (w .completes)) (w .does))
+  pub seat-meets : (v : Wants) → Asks t ws rule d goal k v → Meets v (knownOf c)
+  seat-meets v f = rw at-seat at (f full x (fewer d few k below o (coded c) C) D)
 
-  pub tried-category : knownOf c .item .category ≡ getD (ruleAt t rule .daughters) k 0
-  tried-category =
+  pub seat-category : knownOf c .item .category ≡ getD (ruleAt t rule .daughters) k 0
+  seat-category =
       ap (λ (x : Known Item). x .item .category) (sym at-seat)
-      ∙ sym (List·getD-map (λ (x : Item). x .category) (things (w .full)) k nothing ∙ ap (λ (x : Item). x .category) (List·getD-map (λ (x : Known Item). x .item) (w .full) k unknown))
-      ∙ ap (λ (l : List ℕ). getD l k 0) (w .does .gives .kinds)
+      ∙ sym (List·getD-map (λ (x : Item). x .category) (things full) k nothing ∙ ap (λ (x : Item). x .category) (List·getD-map (λ (x : Known Item). x .item) full k unknown))
+      ∙ ap (λ (l : List ℕ). getD l k 0) (D .gives .kinds)
 
 -- for the code that chooses a daughter
 pub put-first : (d : Daughters) (k : ℕ) (x : CodedItem) → k ≡ 0 → record { count = d .count; one = x; two = d .two; three = d .three } ≡ put d k x
@@ -252,7 +249,7 @@ module _ {t ws : List ℕ} {rule : ℕ} {goal : CodedItem} {d : Daughters} {K : 
   trial-on = trying-on k c left (T .trying) (T .below) (T .chooses) (T .there) refl
 
   pub trial-off : (Meets w (knownOf c) → ⊥) → (x : ℕ) → Tried t ws rule goal (put d k (coded c)) K x → ⊥
-  trial-off n x v = n (tried-meets (T .trying) k (T .below) (T .chooses) c (T .there) x v w (T .asks))
+  trial-off n x v = n (seat-meets d (T .trying .partial .few) k (T .below) (T .chooses) c (T .trying .codes c (T .there) .0) (v .completes) (v .does) w (T .asks))
 
 -- the walk over the spots for daughter k
 module _ {t ws : List ℕ} {rule : ℕ} {goal : CodedItem} {d : Daughters} {K : List ℕ} {left : ℕ} (T : Trying t ws rule goal d K left) (k : ℕ) (below : k < d .count) (o : Open d k) (w : Wants) (A : Asks t ws rule d goal k w)
@@ -267,7 +264,9 @@ module _ {t ws : List ℕ} {rule : ℕ} {goal : CodedItem} {d : Daughters} {K : 
   }
 
   outside : (p : ℕ) → p < length K → (Inside s p → ⊥) → (x : ℕ) → Tried t ws rule goal (put d k (coded (getD K p 0))) K x → ⊥
-  outside p h n x v = n (S .has p h (tried-category T k below o (getD K p 0) (mem-at K p h) x v) (tried-meets T k below o (getD K p 0) (mem-at K p h) x v w A))
+  outside p h n x v =
+      let kind = T .codes (getD K p 0) (mem-at K p h) .0 in
+      n (S .has p h (seat-category d (T .partial .few) k below o (getD K p 0) kind (v .completes) (v .does)) (seat-meets d (T .partial .few) k below o (getD K p 0) kind (v .completes) (v .does) w A))
 
   module _ {h : ℕ} {a : List ℕ} {n : ℕ} where
     pub walk-begins : (i : ℕ) → Skips s 0 i → Ready K h a n → Filled K h (Some (take i K) (λ c. Tried t ws rule goal (put d k (coded c)) K)) a n a n

@@ -9,7 +9,7 @@ use Rattle.meaning.specs.Order.{Each, each-none, each-more, sorted-none}
 use Rattle.meaning.specs.Range.{Item}
 use Rattle.meaning.specs.Grammar.{Rule}
 use Rattle.meaning.specs.Giving.{Gives}
-use Rattle.meaning.specs.Chart.{Known, things, tallest, GivenBy, Made}
+use Rattle.meaning.specs.Chart.{Known, things, tallest, Least, GivenBy, Made}
 use Rattle.meaning.specs.Table.{got, checkTable, byte, number, rankOf, categoryOf}
 use Rattle.meaning.specs.Decode.{past, several, ruleAt, ruleEnd, firstRule, grammarOf}
 use Rattle.meaning.proofs.Ends.{fine-table, past-suc}
@@ -54,12 +54,12 @@ in-all [] each-none = ([], each-none, refl)
 in-all (k ∷ ks) (each-more i is) = let (cs, ms, e) = in-all ks is in let f = i .is in (i .code ∷ cs, each-more (i .there) ms, cc)
 
 -- none of them is chosen
-open-none : (n k : ℕ) → Open (noneOf n) k
+pub open-none : (n k : ℕ) → Open (noneOf n) k
 open-none n zero = refl
 open-none n (suc zero) = refl
 open-none n (suc (suc k)) = refl
 
-blank-none : (n k : ℕ) → seat (noneOf n) k .height ≡ 0
+pub blank-none : (n k : ℕ) → seat (noneOf n) k .height ≡ 0
 blank-none n zero = refl
 blank-none n (suc zero) = refl
 blank-none n (suc (suc k)) = refl
@@ -71,12 +71,20 @@ open-count (suc (suc zero)) h = refl
 open-count (suc (suc (suc zero))) h = refl
 open-count (suc (suc (suc (suc n)))) h = absurd (omega arith)
 
-daughters-many : (t : List ℕ) (p : ℕ) → length (ruleAt t p .daughters) ≡ rankOf t p
+pub daughters-many : (t : List ℕ) (p : ℕ) → length (ruleAt t p .daughters) ≡ rankOf t p
 unfolding ruleAt
 daughters-many t p = several-length (byte t) (λ p. p + 1) (rankOf t p) (p + 4)
 
-full-size : (t ws : List ℕ) (p : ℕ) (ks : List (Known Item)) {y : Item} → Gives (grammarOf t) ws (ruleAt t p) (things ks) y → length ks ≡ rankOf t p
+pub full-size : (t ws : List ℕ) (p : ℕ) (ks : List (Known Item)) {y : Item} → Gives (grammarOf t) ws (ruleAt t p) (things ks) y → length ks ≡ rankOf t p
 full-size t ws p ks g = sym (length-map ks _) ∙ sym (length-map (things ks) _) ∙ ap length (g .kinds) ∙ daughters-many t p
+
+-- a code of something that can be made has a category, and is no longer than 60 bits
+pub code-fine : (t ws : List ℕ) → checkTable t ≡ got tt → length ws ≤ 64 → (c : ℕ) → Least (KeyMade t ws) (keyed c) → (1 ≤ knownOf c .item .category) × (c < 2 ^ 60)
+unfolding KeyMade
+code-fine t ws e short c l =
+    let k = made-category t ws e short (unpacked (keyOf c)) (heightOf c) (l .made) in
+    let s = key-small (unpacked (keyOf c)) (made-small t ws e short (unpacked (keyOf c)) (heightOf c) (l .made)) in
+    (k .0, omega (arith, pack-unpack (keyOf c)))
 
 module _ (t ws K : List ℕ) (h : ℕ) where
   abbrev place : ℕ → ℕ
@@ -114,14 +122,6 @@ module _ (t ws K : List ℕ) (h : ℕ) where
 
   -- what is known when a rule is tried from nothing
   module _ (A : Asked t ws K h) where
-    codes-fine : (c : ℕ) → Mem c K → (1 ≤ knownOf c .item .category) × (c < 2 ^ 60)
-    unfolding KeyMade
-    codes-fine c m =
-        let r = A .exact .right c m .made in
-        let k = made-category t ws (A .accepted) (A .short) (unpacked (keyOf c)) (heightOf c) r in
-        let s = key-small (unpacked (keyOf c)) (made-small t ws (A .accepted) (A .short) (unpacked (keyOf c)) (heightOf c) r) in
-        (k .0, omega (arith, pack-unpack (keyOf c)))
-
     pub rule-of : (i : ℕ) → i < number t 7 → RuleOf t (place i)
     rule-of i l = record { accepted = A .accepted; index = i; below = l; there = refl }
 
@@ -135,7 +135,7 @@ module _ (t ws K : List ℕ) (h : ℕ) where
       high = omega (arith, A .low);
       partial = record { few = few; past = λ k a b. open-none (rankOf t (place i)) k; blank = λ k a b. blank-none (rankOf t (place i)) k };
       count = refl;
-      codes = codes-fine;
+      codes = λ c m. code-fine t ws (A .accepted) (A .short) c (A .exact .right c m);
       drawn = λ k a n. absurd (n (open-none (rankOf t (place i)) k));
       fewer = open-count (rankOf t (place i)) few;
     }

@@ -228,7 +228,7 @@ fn offer(
 }
 
 // Where the known items stand that can be daughter k, as it is asked.
-fn spots_for(table: &[u8], rule: usize, k: usize, w: Wants, known: &[u64]) -> Spots
+pub fn spots_for(table: &[u8], rule: usize, k: usize, w: Wants, known: &[u64]) -> Spots
     requires { ⌜ RuleOf (now table) rule × (k < rankOf (now table) rule) × Sorted (now known) ⌝ }
     ensures { λ s. ⌜ SpotsFor (now (table .entry)) rule k w (now (known .entry)) s ⌝ }
 {
@@ -333,7 +333,7 @@ fn blank_item(h: u16) -> Item
 }
 
 // So many daughters, none of them chosen.
-fn none_of(count: usize) -> Daughters
+pub fn none_of(count: usize) -> Daughters
     ensures { λ r. ⌜ r ≡ noneOf count ⌝ }
 {
     let none = blank_item(0);

@@ -1,0 +1,4 @@
+pub mod Ranks
+pub mod Records
+pub mod Laws
+pub mod Steps

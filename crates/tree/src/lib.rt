@@ -1,0 +1,2 @@
+// The tree writer: from a chart that passes the check, the function numbers of the tree at a record, each node before its daughters.
+mod writing;

@@ -2,12 +2,13 @@
 use mathlib.Core.Path.{_≡_, refl, ap, sym, _∙_, subst}
 use mathlib.Core.List.{List, [], _∷_, _++_, append-assoc, append-nil}
 use Prim.Native.Nat.{ℕ, suc, _+_, _<_, _≤_}
-use native.Mathlib.Nat.{add-zero}
+use native.Mathlib.Nat.{add-zero, zero-add}
 use native.Mathlib.Numerals.{add-one}
 use native.Mathlib.Omega.{arith}
-use lib.ListN.{length, take, drop, set, length-append, length-take, length-drop, length-set, take-append-drop}
-use lib.Seq.{take-at, drop-at, drop-drop, take-suc-set, drop-set-lt, append-snoc}
+use lib.ListN.{length, getD, take, drop, set, length-append, length-take, length-drop, length-set, take-append-drop}
+use lib.Seq.{take-at, drop-at, drop-drop, take-suc-set, drop-set-lt, append-snoc, length-take-le, paste-suc, take-length}
 use Rattle.tree.specs.Writing.{Wrote, fitted, over}
+use Rattle.tree.specs.Answers.{Fitted}
 
 pub kept : {ns s : List ℕ} {p : ℕ} {t : List ℕ} {r : ℕ} → Wrote ns s p t r → length t ≡ length s
 kept (fitted h q e) = ap length e ∙ simp (length-append, length-take, length-drop) (omega arith)
@@ -57,3 +58,26 @@ fit (over h q e) l = absurd (omega arith)
 pub too-long : {ns s t : List ℕ} {r : ℕ} → Wrote ns s 0 t r → length s < r → length s < length ns
 too-long (fitted h q e) l = absurd (omega arith)
 too-long (over h q e) l = omega arith
+
+pub space-holds : {ns s t : List ℕ} {r : ℕ} → Wrote ns s 0 t r → r ≤ length s → length (take r t) ≡ r
+space-holds {t = t} {r = r} w l = length-take-le r t (omega (arith, kept w))
+
+-- a list copied to the front of a slice, number by number
+abbrev pub copied : List ℕ → List ℕ → ℕ → List ℕ
+copied ns s i = take i ns ++ drop i s
+
+pub copy-next : (ns s : List ℕ) (i : ℕ) → i < length ns → i < length s → set (copied ns s i) i (getD ns i 0) ≡ copied ns s (i + 1)
+copy-next ns s i h l = rw add-one (simp zero-add at (paste-suc s 0 ns i 0 (rw zero-add l) h))
+
+pub copy-all : (ns s : List ℕ) (i : ℕ) → i ≡ length ns → copied ns s i ≡ ns ++ drop (length ns) s
+copy-all ns s i e = rw (e, take-length ns)
+
+pub copied-text : {ns rec after : List ℕ} {n : ℕ} (before : List ℕ) → rec ≡ ns → n ≡ length ns → after ≡ rec ++ drop (length rec) before → after ≡ ns ++ drop n before
+copied-text before e f g = g ∙ rw (e, f)
+
+-- a space that is the front of a larger one, and what fits into it
+pub front-within : (k : ℕ) (l : List ℕ) (n : ℕ) → k ≤ length l → k ≤ n → length (take k l) ≤ n
+front-within k l n h m = rw (length-take-le k l h) m
+
+pub fitted-same : {ns before after : List ℕ} {a b d p n : ℕ} → a ≡ b → Fitted ns a before d p n after → Fitted ns b before d p n after
+fitted-same {ns} {before} {after} {d = d} {p = p} {n = n} e f = subst (λ (m : ℕ). Fitted ns m before d p n after) e f

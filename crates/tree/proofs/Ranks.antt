@@ -1,5 +1,5 @@
 -- The rank of the rule with a function number, as the table's bytes say it.
-use mathlib.Core.Path.{_≡_, refl, sym, ap, _∙_, subst}
+use mathlib.Core.Path.{_≡_, sym, ap, _∙_, subst}
 use mathlib.Core.List.{List}
 use Prim.Native.Nat.{ℕ, _+_, _<_}
 use native.Mathlib.Omega.{arith}
@@ -7,13 +7,12 @@ use lib.ListN.{length}
 use Rattle.meaning.specs.Table.{byte}
 use Rattle.meaning.specs.Table as bytes
 use Rattle.meaning.specs.Decode.{ruleAt}
-use Rattle.meaning.specs.Accepted.{FineRule}
 use Rattle.meaning.specs.TreeWriting.{rankOf}
 use Rattle.meaning.proofs.Ends.{fine-table}
 use Rattle.meaning.proofs.Decoded.{several-length}
 use Rattle.table.specs.declared.walk.Found.{Found}
 use Rattle.table.specs.declared.walk.Found.the-variants.{At, Unknown}
-use Rattle.table.specs.Walk.{RuleOf, Finds, known, unknown}
+use Rattle.table.specs.Walk.{Finds, known, unknown}
 use Rattle.tree.specs.Writing.{rank}
 
 daughters-many : (t : List ℕ) (p : ℕ) → length (ruleAt t p .daughters) ≡ byte t (p + 3)

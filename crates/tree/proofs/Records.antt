@@ -1,22 +1,20 @@
 -- The records of a chart that passes: what the recursion needs of them, and that more levels than a record's height tell no other tree.
 -- The main statements: `falling`, `told-same`.
-use mathlib.Core.Path.{_≡_, refl, sym, ap, _∙_, subst}
-use mathlib.Core.Logic.{_⊎_, inl, inr}
-use mathlib.Core.Option.{Option, none, some}
-use mathlib.Core.List.{List, [], _∷_, _++_, map, foldr, cons≢nil, append-assoc, append-nil, List·Memᴰ as Mem, List·Memᴰ·head as here, List·Memᴰ·tail as there}
+use mathlib.Core.Path.{_≡_, refl, sym, ap, _∙_}
+use mathlib.Core.Logic.{inr}
+use mathlib.Core.Option.{some}
+use mathlib.Core.List.{List, [], _∷_, _++_, map, cons≢nil, append-assoc, append-nil, List·Memᴰ as Mem, List·Memᴰ·head as here, List·Memᴰ·tail as there}
 use Prim.Native.Nat.{ℕ, zero, suc, _+_, _*_, _-_, _/_, _≤_, _<_}
 use native.Mathlib.Omega.{arith}
-use lib.ListN.{length, getD, getElem?, take, drop, length-take, length-map}
+use lib.ListN.{length, getD, getElem?, take, length-take}
 use native.Mathlib.Numerals.{add-one}
 use lib.Seq.{slice, length-slice, getD-take, take-suc, take-all}
 use Rattle.meaning.specs.Table.{got, checkTable}
-use Rattle.meaning.specs.Decode.{past, several, grammarOf}
+use Rattle.meaning.specs.Decode.{past, grammarOf}
 use Rattle.meaning.specs.Range.{Item}
-use Rattle.meaning.specs.Grammar.{Rule, Grammar}
-use Rattle.meaning.specs.Giving.{Gives}
-use Rattle.meaning.specs.Valid.{Valid}
-use Rattle.meaning.specs.Chart.{Known, Entry, tallest, Way, GivenBy, knowns, known-of}
-use Rattle.meaning.specs.TreeWriting.{named, rankOf, statedAt, entryAt, lent, Sound, TooMany, Passes, blank, told, nodes}
+use Rattle.meaning.specs.Grammar.{Grammar}
+use Rattle.meaning.specs.Chart.{Known, Entry, tallest, GivenBy, knowns, known-of}
+use Rattle.meaning.specs.TreeWriting.{named, rankOf, statedAt, entryAt, lent, Passes, blank, told, nodes}
 use Rattle.meaning.proofs.Order.{each-at}
 use Rattle.meaning.proofs.Theory.{bounded}
 use Rattle.meaning.proofs.Decoded.{several-length, several-at, valid-grammar}

@@ -1,5 +1,5 @@
 -- What each step of the recursion has written: nothing where there is no room, a node, one daughter's tree more, the whole.
-use mathlib.Core.Path.{_≡_, sym, subst}
+use mathlib.Core.Path.{sym, subst}
 use mathlib.Core.List.{List}
 use Prim.Native.Nat.{ℕ, _+_, _≤_, _<_}
 use lib.ListN.{length, set}

@@ -1,9 +1,9 @@
 -- `write` meets its contract: it calls itself for daughters, whose heights are lower.
 use borrow.Author.Needs.{needs}
 use native.Mathlib.Omega.{arith}
-use mathlib.Core.Path.{_≡_, refl, sym, ap, _∙_}
-use Prim.Native.Nat.{ℕ, _+_, _-_, _*_, _<_, _≤_}
-use lib.ListN.{length, set, length-set}
+use mathlib.Core.Path.{_≡_, refl, _∙_}
+use Prim.Native.Nat.{ℕ, _+_, _-_, _<_, _≤_}
+use lib.ListN.{length, length-set}
 use Rattle.tree.specs.Writing.{rank, functionAt, heightAt, Wrote}
 use Rattle.tree.proofs.Records.{firstTrees}
 use Rattle.tree.proofs.Laws.{none-yet}

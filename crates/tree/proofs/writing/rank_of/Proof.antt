@@ -1,14 +1,9 @@
-use mathlib.Core.Path.{_≡_, _∙_}
+use mathlib.Core.Path.{_∙_}
 use native.Mathlib.Omega.{arith}
 use borrow.Author.Needs.{needs}
 use Rattle.tree.proofs.Ranks.{rank-there, rank-none}
 use Rattle.tree.proofs.writing.rank_of.Statement.{statement}
 use Rattle.tree.proofs.writing.rank_of.Tie as tie
-use Rattle.tree.proofs.writing.rank_of.Reads as reads
-use Rattle.tree.proofs.writing.rank_of.Lts as lts
-use Rattle.table.proofs.byte_at.Reads as byte-at-reads
-use Rattle.table.proofs.size.Reads as size-reads
-use Rattle.table.proofs.find_rule.Reads as find-rule-reads
 
 find-rule-requires : tie.Need-find-rule-requires
 find-rule-requires c κs = search needs

@@ -1,5 +1,5 @@
 -- The refusals of a table and of words have the codes 2 to 15.
-use Prim.Native.Nat.{ℕ, _≤_, _<_}
+use Prim.Native.Nat.{_≤_, _<_}
 use native.Mathlib.Omega.{arith}
 use Rattle.meaning.specs.declared.Refusal.{Refusal}
 use Rattle.meaning.specs.declared.Refusal.the-variants.{Short, Mark, Version, Range, Category, Function, Symbol, Twice, Missing, Start, Trailing, Long, Odd, ZeroWord}

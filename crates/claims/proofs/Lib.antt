@@ -14,3 +14,6 @@ pub mod Blocks
 pub mod RuleOrder
 -- what passes the tree writer's check, and the reader's own charts
 pub mod Passed
+-- the writers and the reader, one after the other
+pub mod Spoken
+pub mod RoundTrip

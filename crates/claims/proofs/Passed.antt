@@ -2,12 +2,12 @@
 -- the reader passes, and a tree written from it has the fewest levels of any tree of its phrase.
 -- The main statements: `passed-true`, `passed-tree`, `reader-passes`, `reader-not-bad`, `fewest-levels`.
 use mathlib.Core.Path.{_≡_, refl, sym, ap, _∙_, subst}
-use mathlib.Core.Logic.{_⊎_, inl, inr}
+use mathlib.Core.Logic.{inl, inr}
 use mathlib.Core.Option.{some}
-use mathlib.Core.List.{List, [], _∷_, _++_}
+use mathlib.Core.List.{List, _++_}
 use Prim.Native.Nat.{ℕ, zero, suc, _+_, _*_, _-_, _≤_, _<_}
 use native.Mathlib.Omega.{arith}
-use lib.ListN.{length, getD, getElem?, take, drop, replicate}
+use lib.ListN.{length, getElem?, take, drop, replicate}
 use lib.Seq.{take-at}
 use Rattle.meaning.specs.Table.{got}
 use Rattle.meaning.specs.Decode.{past, several, grammarOf, wordsOf, checkInput}
@@ -17,7 +17,7 @@ use Rattle.meaning.specs.Grammar.{Grammar, Tree, levels, functions}
 use Rattle.meaning.specs.Giving.{Makes, True}
 use Rattle.meaning.specs.Chart.{Known, Entry, Way, Made, GivenBy, ChartOf, knowns, records}
 use Rattle.meaning.specs.Reading.{room, laid, Read, bad-input, full, deep, read}
-use Rattle.meaning.specs.TreeWriting.{statedAt, entryAt, lent, TooMany, Passes, FirstBad, blank, nodes, TreeWritten, too-many, bad-record, no-place, no-room, wrote}
+use Rattle.meaning.specs.TreeWriting.{statedAt, entryAt, lent, TooMany, Passes, blank, nodes, TreeWritten, too-many, bad-record, no-place, no-room, wrote}
 use Rattle.meaning.specs.TreeWriting as tree
 use Rattle.meaning.proofs.Order.{each-at, each-of, each-map}
 use Rattle.meaning.proofs.Decoded.{several-mem}

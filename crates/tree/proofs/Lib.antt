@@ -2,3 +2,4 @@ pub mod Ranks
 pub mod Records
 pub mod Laws
 pub mod Steps
+pub mod Judging

@@ -1,10 +1,10 @@
 -- What passes the tree writer's check holds only true items, and the tree that is written from a record makes its item. Every chart made by
 -- the reader passes, and a tree written from it has the fewest levels of any tree of its phrase.
--- The main statements: `passed-true`, `passed-tree`, `reader-passes`, `reader-not-bad`, `fewest-levels`.
+-- The main statements: `passed-true`, `written-tree`, `reader-passes`, `reader-not-bad`, `fewest-levels`.
 use mathlib.Core.Path.{_≡_, refl, sym, ap, _∙_, subst}
 use mathlib.Core.Logic.{inl, inr}
 use mathlib.Core.Option.{some}
-use mathlib.Core.List.{List, _++_}
+use mathlib.Core.List.{List}
 use Prim.Native.Nat.{ℕ, zero, suc, _+_, _*_, _-_, _≤_, _<_}
 use native.Mathlib.Omega.{arith}
 use lib.ListN.{length, getElem?, take, drop, replicate}
@@ -53,7 +53,7 @@ module _ {G : Grammar} {ws c : List ℕ} {count : ℕ} (sound : Passes G ws c co
       rw r (sound .sound i h .way))
 
   -- the nodes that are written of a record are those of a tree that makes its item
-  pub passed-tree : (i : ℕ) → i < count → Grown G ws (statedAt c i) (nodes G c count i)
+  passed-tree : (i : ℕ) → i < count → Grown G ws (statedAt c i) (nodes G c count i)
   unfolding nodes lent entryAt
   passed-tree i h =
       let a : getElem? (lent G c count) i ≡ some (entryAt G c i) = several-there (entryAt G c) count 0 i h ∙ ap (λ (p : ℕ). some (entryAt G c p)) (omega arith) in
@@ -64,6 +64,18 @@ module _ {G : Grammar} {ws c : List ℕ} {count : ℕ} (sound : Passes G ws c co
   pub passed-true : (i : ℕ) → i < count → True G ws (statedAt c i .item)
   unfolding True
   passed-true i h = let g = passed-tree i h in (g .tree, g .makes)
+
+-- so the nodes that the tree writer wrote from any chart are those of a tree that makes the root's item
+module _ (t w c : List ℕ) (count root : ℕ) (b : List ℕ) where
+  pub written-tree : {d p n : ℕ} {a : List ℕ} → TreeWritten t w c count root b d p n a → d ≡ 0
+      → (root < count) × Grown (grammarOf t) (wordsOf w) (statedAt c root) (take n a)
+  written-tree (tree.bad-input {r = r} e) z = absurd (omega (arith, refusal-code r .0))
+  written-tree (too-many e m) z = absurd (omega arith)
+  written-tree (bad-record e f) z = absurd (omega arith)
+  written-tree (no-place e s l) z = absurd (omega arith)
+  written-tree (no-room e s l r) z = absurd (omega arith)
+  written-tree (wrote {ns = ns} e s l q r) z =
+      (l, subst (Grown (grammarOf t) (wordsOf w) (statedAt c root)) (sym (take-at ns (drop (length ns) b) (length ns) refl ∙ q)) (passed-tree s root l))
 
 -- no records pass
 none-pass : {G : Grammar} {ws c : List ℕ} → Passes G ws c 0
@@ -103,36 +115,22 @@ pub record Fewest (G : Grammar) (ws : List ℕ) (x : Item) (ns : List ℕ) : Typ
   pub list : functions tree ≡ ns
   pub fewest : (u : Tree) → Makes G ws u x → levels tree ≤ levels u
 
-module _ (G : Grammar) (ws : List ℕ) {C : List (Entry Item)} (c : ChartOf G ws C) (rest : List ℕ) where
-  -- a record of the chart states its item's least height
-  least-stated : (i : ℕ) → i < length C → (m : ℕ) → Made G ws (statedAt (records C ++ rest) i .item) m → statedAt (records C ++ rest) i .height ≤ m
-  least-stated i h m y =
-      let q = known-is (shows C rest i h) in
-      rw q (each-at (c .heights) (getD-mem blank C i h) .least m (rw q at y))
-
--- 'the fewest levels of any tree that makes it true': of every tree written from the reader's own chart
+-- a record of the reader's chart states its item's least height
 module _ (t w : List ℕ) (allowance : ℕ) (b : List ℕ) where
-  fewest-nodes : {c p n : ℕ} {a : List ℕ} → Read t w allowance b c p n a → (i : ℕ) → i < n → Fewest (grammarOf t) (wordsOf w) (statedAt a i .item) (nodes (grammarOf t) a n i)
+  least-stated : {c p n : ℕ} {a : List ℕ} → Read t w allowance b c p n a → (i : ℕ) → i < n → (u : Tree) → Makes (grammarOf t) (wordsOf w) u (statedAt a i .item)
+      → statedAt a i .height ≤ levels u
   unfolding Made
-  fewest-nodes (bad-input e) i h = absurd (omega arith)
-  fewest-nodes (full e o) i h = absurd (omega arith)
-  fewest-nodes (deep e o d) i h = absurd (omega arith)
-  fewest-nodes (read {C = C} e k l v) i h =
-      let g = passed-tree (chart-passes t w allowance b e k l) i h in
-      record {
-        tree = g .tree;
-        makes = g .makes;
-        list = g .list;
-        fewest = λ u m. omega (arith, g .high, least-stated (grammarOf t) (wordsOf w) k (replicate (length b - 12 * length C) 0) i h (levels u) (u, m, refl));
-      }
+  least-stated (bad-input e) i h u m = absurd (omega arith)
+  least-stated (full e o) i h u m = absurd (omega arith)
+  least-stated (deep e o d) i h u m = absurd (omega arith)
+  least-stated (read {C = C} e c l v) i h u m =
+      let q = known-is (shows C (replicate (length b - 12 * length C) 0) i h) in
+      rw q (each-at (c .heights) (getD-mem blank C i h) .least (levels u) (u, rw q at m, refl))
 
+  -- 'the fewest levels of any tree that makes it true': of every tree written from the reader's own chart
   pub fewest-levels : {c p n : ℕ} {a : List ℕ} {root : ℕ} {before : List ℕ} {d q m : ℕ} {after : List ℕ}
       → Read t w allowance b c p n a → TreeWritten t w a n root before d q m after → d ≡ 0
       → Fewest (grammarOf t) (wordsOf w) (statedAt a root .item) (take m after)
-  fewest-levels x (tree.bad-input {r = r} e) z = absurd (omega (arith, refusal-code r .0))
-  fewest-levels x (too-many e m) z = absurd (omega arith)
-  fewest-levels x (bad-record e f) z = absurd (omega arith)
-  fewest-levels x (no-place e s l) z = absurd (omega arith)
-  fewest-levels x (no-room e s l r) z = absurd (omega arith)
-  fewest-levels {a = a} {root = root} {before = before} x (wrote {ns = ns} e s l q r) z =
-      subst (Fewest (grammarOf t) (wordsOf w) (statedAt a root .item)) (sym (take-at ns (drop (length ns) before) (length ns) refl ∙ q)) (fewest-nodes x root l)
+  fewest-levels {n = n} {a = a} {root = root} {before = before} x y z =
+      let (h, g) = written-tree t w a n root before y z in
+      record { tree = g .tree; makes = g .makes; list = g .list; fewest = λ u m. omega (arith, g .high, least-stated x root h u m) }

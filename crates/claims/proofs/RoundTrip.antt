@@ -17,7 +17,7 @@ use Rattle.meaning.specs.Grammar.{Grammar, Tree}
 use Rattle.meaning.specs.Giving.{Makes}
 use Rattle.meaning.specs.Chart.{Entry, items}
 use Rattle.meaning.specs.Reading.{goal, yes-at, no-goal, Read, bad-input, full, deep, read}
-use Rattle.meaning.specs.TreeWriting.{statedAt, blank, nodes, TreeWritten, too-many, bad-record, no-place, no-room, wrote}
+use Rattle.meaning.specs.TreeWriting.{statedAt, blank, TreeWritten, too-many, bad-record, no-place, no-room, wrote}
 use Rattle.meaning.specs.TreeWriting as tree
 use Rattle.meaning.specs.SentenceWriting.{Reads, words, SentenceWritten}
 use Rattle.meaning.specs.SentenceWriting as sentence
@@ -28,7 +28,7 @@ use Rattle.meaning.proofs.Determined.{Same, same-sentence, table-accepted, vali
 use Rattle.meaning.proofs.Yes.{Spelt, spelt-yes}
 use Rattle.claims.proofs.Codes.{refusal-code}
 use Rattle.claims.proofs.Heights.{never-deep}
-use Rattle.claims.proofs.Passed.{reader-passes, passed-tree}
+use Rattle.claims.proofs.Passed.{reader-passes, written-tree}
 use Rattle.claims.proofs.Spoken.{spoken-words, words-accepted, input-accepted}
 
 -- what is accepted is not refused
@@ -58,13 +58,6 @@ module _ (t w : List ℕ) (allowance : ℕ) (b : List ℕ) where
       (e, h, ap (λ k. k .item) (known-is (shows C (replicate (length b - 12 * length C) 0) p h)) ∙ r)
   goal-there (read e c l (no-goal n)) z = absurd (omega arith)
 
-  goal-nodes : {c p n : ℕ} {a : List ℕ} → Read t w allowance b c p n a → c ≡ 0 → Spells (grammarOf t) (wordsOf w) (nodes (grammarOf t) a n p)
-  goal-nodes {p = p} x z =
-      let (e, h, q) = goal-there x z in
-      let g = passed-tree (reader-passes t w allowance b x) p h in
-      let m : Makes (grammarOf t) (wordsOf w) (g .tree) (goal (grammarOf t) (wordsOf w)) = rw q at (g .makes) in
-      record { tree = g .tree; reads = record { kind = m .kind; told = g .list }; says = spells-sentence m }
-
   -- the goal's tree is written, or does not fit
   pub goal-tree : {c p n : ℕ} {a before : List ℕ} {d q m : ℕ} {after : List ℕ} → Read t w allowance b c p n a → c ≡ 0 → TreeWritten t w a n p before d q m after
       → (d ≡ 19) ⊎ ((d ≡ 0) × (m ≤ 255) × Spells (grammarOf t) (wordsOf w) (take m after))
@@ -73,8 +66,10 @@ module _ (t w : List ℕ) (allowance : ℕ) (b : List ℕ) where
   goal-tree x z (bad-record {i = i} f y) = absurd (y .bad (reader-passes t w allowance b x .sound i (y .below)))
   goal-tree x z (no-place f y l) = let (e, h, q) = goal-there x z in absurd (omega arith)
   goal-tree x z (no-room f y l r) = inl refl
-  goal-tree {before = before} x z (wrote {ns = ns} f y l q r) =
-      inr (refl, omega arith, subst (Spells (grammarOf t) (wordsOf w)) (sym (take-at ns (drop (length ns) before) (length ns) refl ∙ q)) (goal-nodes x z))
+  goal-tree {p = p} {n = n} {a = a} {before = before} x z (wrote {ns = ns} f y l q r) =
+      let (h, g) = written-tree t w a n p before (wrote {ns = ns} f y l q r) refl in
+      let m : Makes (grammarOf t) (wordsOf w) (g .tree) (goal (grammarOf t) (wordsOf w)) = rw (goal-there x z .2) at (g .makes) in
+      inr (refl, omega arith, record { tree = g .tree; reads = record { kind = m .kind; told = g .list }; says = spells-sentence m })
 
   -- what fits spells the sentence again
   pub goal-spelled : {c p n : ℕ} {a before : List ℕ} {d q m : ℕ} {after text : List ℕ} {d′ q′ m′ : ℕ} {after′ : List ℕ}

@@ -3,3 +3,4 @@ pub mod Records
 pub mod Laws
 pub mod Steps
 pub mod Judging
+pub mod Theorems

@@ -1,5 +1,6 @@
 pub mod Ranks
 pub mod Records
+pub mod Trees
 pub mod Laws
 pub mod Steps
 pub mod Judging

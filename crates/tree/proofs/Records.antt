@@ -1,26 +1,24 @@
--- The records of a chart that passes: what the recursion needs of them, and that more levels than a record's height tell no other tree.
--- The main statements: `falling`, `told-same`.
+-- The records of a chart that passes: what they are as entries, and that they have what the recursion needs (`falling`).
 use mathlib.Core.Path.{_≡_, refl, sym, ap, _∙_}
 use mathlib.Core.Logic.{inr}
 use mathlib.Core.Option.{some}
-use mathlib.Core.List.{List, [], _∷_, _++_, map, cons≢nil, append-assoc, append-nil, List·Memᴰ as Mem, List·Memᴰ·head as here, List·Memᴰ·tail as there}
+use mathlib.Core.List.{List, [], _∷_, map, cons≢nil, List·Memᴰ as Mem, List·Memᴰ·head as here, List·Memᴰ·tail as there}
 use Prim.Native.Nat.{ℕ, zero, suc, _+_, _*_, _-_, _/_, _≤_, _<_}
 use native.Mathlib.Omega.{arith}
-use lib.ListN.{length, getD, getElem?, take, length-take}
-use native.Mathlib.Numerals.{add-one}
-use lib.Seq.{slice, length-slice, getD-take, take-suc, take-all}
+use lib.ListN.{length, getD, getElem?, length-take}
+use lib.Seq.{slice, length-slice, getD-take}
 use Rattle.meaning.specs.Table.{got, checkTable}
 use Rattle.meaning.specs.Decode.{past, grammarOf}
 use Rattle.meaning.specs.Range.{Item}
 use Rattle.meaning.specs.Grammar.{Grammar}
-use Rattle.meaning.specs.Chart.{Known, Entry, tallest, GivenBy, knowns, known-of}
-use Rattle.meaning.specs.TreeWriting.{named, rankOf, statedAt, entryAt, lent, Passes, blank, told, nodes}
+use Rattle.meaning.specs.Chart.{Known, tallest, GivenBy, knowns, known-of}
+use Rattle.meaning.specs.TreeWriting.{named, rankOf, statedAt, entryAt, lent, Passes, blank}
 use Rattle.meaning.proofs.Order.{each-at}
 use Rattle.meaning.proofs.Theory.{bounded}
 use Rattle.meaning.proofs.Decoded.{several-length, several-at, valid-grammar}
 use Rattle.meaning.proofs.Passing.{slice-at}
 use Rattle.meaning.proofs.Walk.{found}
-use Rattle.tree.specs.Writing.{rank, functionAt, heightAt, placeAt, Falling, trees}
+use Rattle.tree.specs.Writing.{rank, functionAt, heightAt, placeAt, Falling}
 
 -- lists: what stands at a place
 at-map : {A B : Type 0} (f : A → B) (l : List A) (p : ℕ) (d : A) {b : B} → getElem? (map f l) p ≡ some b → (p < length l) × (f (getD l p d) ≡ b)
@@ -42,7 +40,7 @@ past-suc (suc i) at = past-suc i (suc at) ∙ omega arith
 
 -- the entries of a lent chart
 module _ (G : Grammar) (c : List ℕ) (count : ℕ) where
-  pub lent-length : length (lent G c count) ≡ count
+  lent-length : length (lent G c count) ≡ count
   unfolding lent
   lent-length = several-length (entryAt G c) suc count 0
 
@@ -50,7 +48,7 @@ module _ (G : Grammar) (c : List ℕ) (count : ℕ) where
   unfolding lent
   lent-at i h = several-at (entryAt G c) suc count 0 i blank h ∙ ap (entryAt G c) (past-suc i 0 ∙ omega arith)
 
-stated-height : (c : List ℕ) (i : ℕ) → statedAt c i .height ≡ heightAt c i
+pub stated-height : (c : List ℕ) (i : ℕ) → statedAt c i .height ≡ heightAt c i
 unfolding statedAt
 stated-height c i = refl
 
@@ -58,7 +56,7 @@ module _ (G : Grammar) (c : List ℕ) (i : ℕ) where
   abbrev many : ℕ
   many = rankOf (named (G .rules) (functionAt c i))
 
-  entry-function : entryAt G c i .function ≡ functionAt c i
+  pub entry-function : entryAt G c i .function ≡ functionAt c i
   unfolding entryAt
   entry-function = refl
 
@@ -67,11 +65,11 @@ module _ (G : Grammar) (c : List ℕ) (i : ℕ) where
   entry-known = refl
 
   module _ (there : 12 * i + 12 ≤ length c) (three : many ≤ 3) where
-    places-many : length (entryAt G c i .places) ≡ many
+    pub places-many : length (entryAt G c i .places) ≡ many
     unfolding entryAt
     places-many = length-take many (slice (12 * i + 9) (12 * i + 12) c) ∙ omega (arith, length-slice (12 * i + 9) (12 * i + 12) c there)
 
-    place-is : (k : ℕ) → k < many → getD (entryAt G c i .places) k 0 ≡ placeAt c i k
+    pub place-is : (k : ℕ) → k < many → getD (entryAt G c i .places) k 0 ≡ placeAt c i k
     unfolding entryAt
     place-is k h = getD-take many (slice (12 * i + 9) (12 * i + 12) c) k 0 h ∙ slice-at (12 * i + 9) (12 * i + 12) c k (omega arith)
 
@@ -113,64 +111,3 @@ module _ (t ws c : List ℕ) (count : ℕ) (accepted : checkTable t ≡ got tt) 
     below = λ i k h l. daughter i k h l .0;
     lower = λ i k h l. daughter i k h l .1;
   }
-
--- trees one after another
-trees-append : (n : ℕ) (C : List (Entry Item)) (ps qs : List ℕ) → trees n C (ps ++ qs) ≡ trees n C ps ++ trees n C qs
-trees-append n C [] qs = refl
-trees-append n C (p ∷ ps) qs = rw (trees-append n C ps qs, append-assoc)
-
--- one daughter more
-trees-more : (n : ℕ) (C : List (Entry Item)) (ps : List ℕ) (k : ℕ) → k < length ps → trees n C (take (k + 1) ps) ≡ trees n C (take k ps) ++ told n C (getD ps k 0)
-trees-more n C ps k h = rw (add-one, take-suc ps k 0 h, trees-append n C (take k ps) (getD ps k 0 ∷ []), append-nil (told n C (getD ps k 0)))
-
-trees-same : (n m : ℕ) (C : List (Entry Item)) (ps : List ℕ) → ((k : ℕ) → k < length ps → told n C (getD ps k 0) ≡ told m C (getD ps k 0)) → trees n C ps ≡ trees m C ps
-trees-same n m C [] h = refl
-trees-same n m C (p ∷ ps) h = rw (h 0 (omega arith), trees-same n m C ps (λ k l. h (suc k) (omega arith)))
-
--- the places of a record's daughters, and the trees of the first k of them
-abbrev placesAt : List ℕ → List ℕ → ℕ → List ℕ
-placesAt t c i = entryAt (grammarOf t) c i .places
-
-abbrev pub firstTrees : List ℕ → List ℕ → ℕ → ℕ → ℕ → List ℕ
-firstTrees t c count i k = trees (heightAt c i - 1) (lent (grammarOf t) c count) (take k (placesAt t c i))
-
-module _ (t c : List ℕ) (count : ℕ) (falls : Falling t c count) where
-  abbrev C : List (Entry Item)
-  C = lent (grammarOf t) c count
-
-  length-places : (i : ℕ) → i < count → length (placesAt t c i) ≡ rank t (functionAt c i)
-  length-places i h = places-many (grammarOf t) c i (omega (arith, falls .size)) (falls .three i h)
-
-  place-at : (i k : ℕ) → i < count → k < rank t (functionAt c i) → getD (placesAt t c i) k 0 ≡ placeAt c i k
-  place-at i k h l = place-is (grammarOf t) c i (omega (arith, falls .size)) (falls .three i h) k l
-
-  -- a node and then its daughters
-  told-at : (n i : ℕ) → i < count → told (suc n) C i ≡ functionAt c i ∷ trees n C (placesAt t c i)
-  unfolding told
-  told-at n i h = rw (lent-at (grammarOf t) c count i h, entry-function (grammarOf t) c i)
-
-  pub told-same : (n m i : ℕ) → i < count → heightAt c i ≤ n → heightAt c i ≤ m → told n C i ≡ told m C i
-  told-same zero m i h l k = absurd (omega (arith, falls .high i h))
-  told-same (suc n) zero i h l k = absurd (omega (arith, falls .high i h))
-  told-same (suc n) (suc m) i h l k =
-      told-at n i h
-      ∙ ap (λ (l : List ℕ). functionAt c i ∷ l) (trees-same n m C (placesAt t c i) (λ j b.
-      let r : j < rank t (functionAt c i) = omega (arith, length-places i h) in
-      rw (place-at i j h r) (told-same n m (placeAt c i j) (falls .below i j h r) (omega (arith, falls .lower i j h r)) (omega (arith, falls .lower i j h r)))))
-      ∙ sym (told-at m i h)
-
-  pub nodes-are : (i k : ℕ) → i < count → rank t (functionAt c i) ≤ k → nodes (grammarOf t) c count i ≡ functionAt c i ∷ firstTrees t c count i k
-  unfolding nodes
-  nodes-are i k h l =
-      let n : statedAt c i .height ≡ suc (heightAt c i - 1) = omega (arith, stated-height c i, falls .high i h) in
-      let a : take k (placesAt t c i) ≡ placesAt t c i = take-all k (placesAt t c i) (omega (arith, length-places i h)) in
-      ap (λ (m : ℕ). told m C i) n ∙ told-at (heightAt c i - 1) i h ∙ ap (λ (ps : List ℕ). functionAt c i ∷ trees (heightAt c i - 1) C ps) (sym a)
-
-  pub nodes-more : (i k : ℕ) → i < count → k < rank t (functionAt c i) → firstTrees t c count i (k + 1) ≡ firstTrees t c count i k ++ nodes (grammarOf t) c count (placeAt c i k)
-  unfolding nodes
-  nodes-more i k h l =
-      let q : placeAt c i k < count = falls .below i k h l in
-      let e = told-same (heightAt c i - 1) (statedAt c (placeAt c i k) .height) (placeAt c i k) q (omega (arith, falls .lower i k h l)) (omega (arith, stated-height c (placeAt c i k))) in
-      let d = place-at i k h l in
-      trees-more (heightAt c i - 1) C (placesAt t c i) k (omega (arith, length-places i h))
-      ∙ ap (λ (l : List ℕ). firstTrees t c count i k ++ l) (ap (told (heightAt c i - 1) C) d ∙ e)

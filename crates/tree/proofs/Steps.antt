@@ -6,7 +6,7 @@ use lib.ListN.{length, set}
 use Rattle.meaning.specs.Decode.{grammarOf}
 use Rattle.meaning.specs.TreeWriting.{nodes}
 use Rattle.tree.specs.Writing.{rank, functionAt, placeAt, Falling, Wrote}
-use Rattle.tree.proofs.Records.{firstTrees, nodes-are, nodes-more}
+use Rattle.tree.proofs.Trees.{firstTrees, nodes-are, nodes-more}
 use Rattle.tree.proofs.Laws.{then, stored, no-room-for}
 
 module _ (t c : List ℕ) (count : ℕ) (falls : Falling t c count) (i : ℕ) (h : i < count) where

@@ -5,7 +5,7 @@ use mathlib.Core.Path.{_≡_, refl, _∙_}
 use Prim.Native.Nat.{ℕ, _+_, _-_, _<_, _≤_}
 use lib.ListN.{length, length-set}
 use Rattle.tree.specs.Writing.{rank, functionAt, heightAt, Wrote}
-use Rattle.tree.proofs.Records.{firstTrees}
+use Rattle.tree.proofs.Trees.{firstTrees}
 use Rattle.tree.proofs.Laws.{none-yet}
 use Rattle.tree.proofs.Steps.{none-of-it, one-daughter, all-daughters}
 use borrow.Fn.Kinds.{In}

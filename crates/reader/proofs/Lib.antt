@@ -1,0 +1,6 @@
+pub mod Zeros
+pub mod Inputs
+pub mod Writing
+pub mod Goals
+pub mod Answering
+pub mod Theorems

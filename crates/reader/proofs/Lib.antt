@@ -1,5 +1,6 @@
 pub mod Zeros
 pub mod Inputs
+pub mod Entering
 pub mod Writing
 pub mod Goals
 pub mod Answering

@@ -1,8 +1,8 @@
 -- Records in a chart slice: document 01, 'The chart'; and what of them is written while the reader writes.
 use mathlib.Core.Path.{_≡_}
-use mathlib.Core.List.{List, _++_, map}
+use mathlib.Core.List.{List, [], _∷_, _++_, map}
 use Prim.Native.Nat.{ℕ, _+_, _*_, _≤_}
-use lib.ListN.{length, take, drop}
+use lib.ListN.{length, getD, take, drop}
 use Rattle.meaning.specs.Order.{Each}
 use Rattle.meaning.specs.Range.{Item}
 use Rattle.meaning.specs.Table.{got, checkTable, number}
@@ -10,8 +10,17 @@ use Rattle.meaning.specs.Decode.{grammarOf}
 use Rattle.meaning.specs.Chart.{Entry, Chosen, GivenBy, knowns, shown, records}
 use Rattle.table.specs.Walk.{Ranked}
 use Rattle.store.specs.Code.{knownOf}
+use Rattle.phrase.specs.declared.items.Item.{Item as CodedItem}
 use Rattle.search.specs.Search.{All}
 use Rattle.search.specs.Keys.{KeyMade}
+use Rattle.chosen.specs.declared.Choice.{Choice}
+
+-- 'twelve two-byte numbers: category, function, height, three ranges as start and end, three daughters' places'
+abbrev pub recordOf : CodedItem → Choice → List ℕ
+recordOf x c =
+    x .category ∷ c .function ∷ x .height
+    ∷ getD (x .ends) 0 0 ∷ getD (x .ends) 1 0 ∷ getD (x .ends) 2 0 ∷ getD (x .ends) 3 0 ∷ getD (x .ends) 4 0 ∷ getD (x .ends) 5 0
+    ∷ c .one ∷ c .two ∷ c .three ∷ []
 
 -- what the records are written from: K is all items that can be made, in an accepted table and a sentence of at most 64 words
 pub record Whole (t ws K : List ℕ) : Type 0 where

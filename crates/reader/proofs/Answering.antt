@@ -34,15 +34,18 @@ charted-all {t} {ws} {K} w r j = record {
 }
 
 module _ (t ws : List ℕ) {room : ℕ} where
-  pub answered-full : {before K : List ℕ} {r : ℕ} {after : List ℕ} → Found (KeyMade t ws) room K r → room < r → after ≡ cleared before → Answered t ws room before 16 room 0 after
+  pub answered-full : {before K : List ℕ} {r : ℕ} {after : List ℕ} → Found (KeyMade t ws) room K r → room < r → after ≡ cleared before
+      → Answered t ws room before 16 room 0 after
   answered-full (all h a) l e = absurd (omega arith)
   answered-full (over h m) l e = too-many (more-over t ws m) e
 
-  pub answered-chart : {before K mid after : List ℕ} {code place count : ℕ} → length K ≤ room → mid ≡ cleared before → Charted t ws K mid code place count after
-      → Answered t ws room before code place count after
+  pub answered-chart : {before K mid after : List ℕ} {code place count : ℕ} → length K ≤ room → mid ≡ cleared before
+      → Charted t ws K mid code place count after → Answered t ws room before code place count after
   answered-chart {before} h e c =
+      let n : ℕ = 12 * length (c .entries) in
+      let rest : drop n _ ≡ _ = ap (drop n) e ∙ drop-zeros n (length before) in
       charted (c .chart) (omega (arith, c .size)) (c .verdict) (c .count ∙ sym (c .size))
-      (c .there ∙ ap (λ (l : List ℕ). records (c .entries) ++ l) (ap (drop (12 * length (c .entries))) e ∙ drop-zeros (12 * length (c .entries)) (length before)))
+      (c .there ∙ ap (λ (l : List ℕ). records (c .entries) ++ l) rest)
 
 -- the first of the codes are all items, and the chart slice holds their records
 pub record FoundWhole (t ws codes before : List ℕ) (count : ℕ) : Type 0 where
@@ -50,8 +53,8 @@ pub record FoundWhole (t ws codes before : List ℕ) (count : ℕ) : Type 0 wher
   pub size : length codes ≡ count
   pub fits : 12 * length codes ≤ length before
 
-pub found-whole : {t ws : List ℕ} {room : ℕ} {before b : List ℕ} {r : ℕ} → Reading t ws room before → length b ≡ 2000 → Found (KeyMade t ws) room b r → r ≤ room
-    → FoundWhole t ws (take r b) before r
+pub found-whole : {t ws : List ℕ} {room : ℕ} {before b : List ℕ} {r : ℕ} → Reading t ws room before → length b ≡ 2000
+    → Found (KeyMade t ws) room b r → r ≤ room → FoundWhole t ws (take r b) before r
 found-whole {b = b} {r = r} p n (all h a) l =
     let size : length (take r b) ≡ r = length-take-le r b (omega (arith, p .small)) in
     record {
@@ -84,10 +87,12 @@ module _ (t w : List ℕ) (allowance : ℕ) (before : List ℕ) (e : checkInput 
       → Answered t (wordsOf w) n before code place count after → Read t w allowance before code place count after
   read-answered q a = go (room-here q) a
     where
-      go : {n : ℕ} {code place count : ℕ} {after : List ℕ} → n ≡ room allowance before → Answered t (wordsOf w) n before code place count after → Read t w allowance before code place count after
+      go : {n : ℕ} {code place count : ℕ} {after : List ℕ} → n ≡ room allowance before
+          → Answered t (wordsOf w) n before code place count after → Read t w allowance before code place count after
       go {after = after} q (too-many o l) =
+          let over-room = subst (λ (x : ℕ). Over (grammarOf t) (wordsOf w) x) q o in
           subst (λ (x : ℕ). Read t w allowance before 16 x 0 after) (sym q)
-          (subst (λ (a : List ℕ). Read t w allowance before 16 (room allowance before) 0 a) (sym l) (full e (subst (λ (x : ℕ). Over (grammarOf t) (wordsOf w) x) q o)))
+          (subst (λ (a : List ℕ). Read t w allowance before 16 (room allowance before) 0 a) (sym l) (full e over-room))
       go {code = code} {place = place} {after = after} q (charted {C = C} c h v m l) =
           subst (λ (x : ℕ). Read t w allowance before code place x after) (sym m)
           (subst (λ (a : List ℕ). Read t w allowance before code place (length C) a) (sym l) (read e c (omega arith) v))

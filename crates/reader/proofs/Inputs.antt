@@ -44,7 +44,8 @@ ruled {t} {before} {after} {count} o h = record { ranked = rw size ranked; rules
       rising = λ j k l m. rw (at j (omega arith), at k m) (o .ranked .rising j k l m);
     }
 
-pub rules-fit : {t before after : List ℕ} {count : ℕ} → checkTable t ≡ got tt → length before ≡ 256 → Ordered t before after count → count ≤ length after
+pub rules-fit : {t before after : List ℕ} {count : ℕ} → checkTable t ≡ got tt → length before ≡ 256
+    → Ordered t before after count → count ≤ length after
 rules-fit {t} e n o = omega (arith, o .all, o .size, fine-table t e .count)
 
 -- a slice into whose front the words were read

@@ -1,6 +1,6 @@
 use mathlib.Core.Path.{refl}
-use Rattle.reader.proofs.Answering.{reading, read-answered}
 use borrow.Author.Needs.{needs}
+use Rattle.reader.proofs.Answering.{reading, read-answered}
 use Rattle.reader.proofs.accepted.Statement.{statement}
 use Rattle.reader.proofs.accepted.Tie as tie
 

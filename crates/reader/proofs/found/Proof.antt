@@ -1,7 +1,7 @@
 use mathlib.Core.Path.{sym, _∙_}
-use Rattle.reader.proofs.Answering.{answered-full, found-whole, answered-chart}
 use native.Mathlib.Omega.{arith}
 use borrow.Author.Needs.{needs}
+use Rattle.reader.proofs.Answering.{answered-full, found-whole, answered-chart}
 use Rattle.reader.proofs.found.Statement.{statement}
 use Rattle.reader.proofs.found.Tie as tie
 

@@ -1,6 +1,8 @@
 use mathlib.Core.Path.{_≡_, sym, ap, subst, _∙_}
 use mathlib.Core.List.{List, _++_}
 use Prim.Native.Nat.{ℕ, _/_}
+use native.Mathlib.Omega.{arith}
+use borrow.Author.Needs.{needs}
 use lib.ListN.{length, take, drop}
 use lib.Seq.{length-take-le}
 use Rattle.meaning.specs.Decode.{wordsOf}
@@ -8,8 +10,6 @@ use Rattle.table.proofs.Sentence.{words-length}
 use Rattle.reader.specs.Answers.{Reading}
 use Rattle.reader.proofs.Inputs.{words-kept, prefix-there}
 use Rattle.reader.proofs.Answering.{answered-as}
-use native.Mathlib.Omega.{arith}
-use borrow.Author.Needs.{needs}
 use Rattle.reader.proofs.worded.Statement.{statement}
 use Rattle.reader.proofs.worded.Tie as tie
 

@@ -1,9 +1,9 @@
 use mathlib.Core.Path.{sym}
+use borrow.Author.Needs.{needs}
 use lib.Seq.{length-take-le}
 use Rattle.reader.proofs.Goals.{start-small}
 use Rattle.reader.proofs.Inputs.{rules-fit, ruled}
 use Rattle.reader.proofs.Answering.{charted-all}
-use borrow.Author.Needs.{needs}
 use Rattle.reader.proofs.written.Statement.{statement}
 use Rattle.reader.proofs.written.Tie as tie
 

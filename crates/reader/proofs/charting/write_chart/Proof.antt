@@ -1,10 +1,10 @@
 use mathlib.Core.Path.{_≡_, refl, _∙_}
 use Prim.Native.Nat.{_-_, _≤_}
+use native.Mathlib.Omega.{arith}
+use borrow.Author.Needs.{needs}
 use lib.ListN.{length, take}
 use Rattle.reader.specs.Records.{Written}
 use Rattle.reader.proofs.Writing.{write-none, write-next, write-whole}
-use borrow.Author.Needs.{needs}
-use native.Mathlib.Omega.{arith}
 use Rattle.reader.proofs.charting.write_chart.Statement.{statement}
 use Rattle.reader.proofs.charting.write_chart.Tie as tie
 

@@ -1,6 +1,6 @@
+use borrow.Author.Needs.{needs}
 use Rattle.store.proofs.Laws.{mem-at}
 use Rattle.reader.proofs.Entering.{choosing, code-small, entered}
-use borrow.Author.Needs.{needs}
 use Rattle.reader.proofs.charting.write_entry.Statement.{statement}
 use Rattle.reader.proofs.charting.write_entry.Tie as tie
 

@@ -1,10 +1,10 @@
 use mathlib.Core.Path.{_≡_, ap, _∙_}
 use Prim.Native.Nat.{ℕ}
+use native.Mathlib.Omega.{arith}
+use borrow.Author.Needs.{needs}
 use Rattle.meaning.specs.Table.{byte}
 use Rattle.reader.specs.Answers.{goalKey}
 use Rattle.reader.proofs.Goals.{goal-there, goal-nowhere}
-use native.Mathlib.Omega.{arith}
-use borrow.Author.Needs.{needs}
 use Rattle.reader.proofs.goal.yes_or_no.Statement.{statement}
 use Rattle.reader.proofs.goal.yes_or_no.Tie as tie
 

@@ -1,9 +1,9 @@
 use mathlib.Core.Path.{_≡_, refl}
 use Prim.Native.Nat.{_-_, _≤_}
+use native.Mathlib.Omega.{arith}
+use borrow.Author.Needs.{needs}
 use lib.ListN.{length, take, replicate, length-set}
 use Rattle.reader.proofs.Zeros.{clear-next, all-clear}
-use borrow.Author.Needs.{needs}
-use native.Mathlib.Omega.{arith}
 use Rattle.reader.proofs.records.clear.Statement.{statement}
 use Rattle.reader.proofs.records.clear.Tie as tie
 

@@ -1,6 +1,6 @@
 use mathlib.Core.Path.{sym, _∙_}
-use Rattle.reader.proofs.Inputs.{allowed-none, allowed-some}
 use borrow.Author.Needs.{needs}
+use Rattle.reader.proofs.Inputs.{allowed-none, allowed-some}
 use Rattle.reader.proofs.room.allowed_of.Statement.{statement}
 use Rattle.reader.proofs.room.allowed_of.Tie as tie
 

@@ -1,17 +1,16 @@
 -- Chart order, number by number.
-use Prim.Native.Nat.{ℕ, zero, suc, _+_, _-_, _≤_, _<_}
-use mathlib.Core.Path.{_≡_, refl, sym, ap, _∙_}
-use mathlib.Core.Logic.{_⊎_, inl, inr}
+use Prim.Native.Nat.{ℕ, suc, _+_, _-_, _≤_, _<_}
+use mathlib.Core.Path.{_≡_, refl, ap, _∙_}
+use mathlib.Core.Logic.{inl, inr}
 use mathlib.Core.List.{List, [], _∷_}
 use mathlib.Core.Bool.{Bool}
 use native.Mathlib.Omega.{arith}
-use native.Mathlib.Numerals.{add-one}
 use Rattle.meaning.specs.Order.{Lex}
 use Rattle.meaning.specs.Range.{numbers}
 use Rattle.meaning.specs.Chart.{Before}
 use Rattle.meaning.specs.Decode.{several}
 use Rattle.meaning.specs.TreeWriting.{statedAt}
-use Rattle.phrase.specs.Phrase.{Decides, holds, fails}
+use Rattle.phrase.specs.Phrase.{Decides}
 use Rattle.phrase.proofs.Fit.{instead}
 use Rattle.lent.specs.Lent.{numberAt, numbersAt, After}
 

@@ -6,9 +6,6 @@ use Prim.Native.Nat.{ℕ, zero, suc, _≤_, _<_}
 use native.Mathlib.Omega.{arith}
 use native.Mathlib.Decide.{decLe}
 use lib.ListN.{length, length-map}
-use Rattle.meaning.specs.declared.Refusal.{Refusal}
-use Rattle.meaning.specs.declared.Refusal.the-variants.{Short, Mark, Version, Range, Category, Function, Symbol, Twice, Missing, Start, Trailing, Long, Odd, ZeroWord}
-use Rattle.meaning.specs.Refusals.{codeOf}
 use Rattle.meaning.specs.Decode.{grammarOf, wordsOf}
 use Rattle.meaning.specs.Order.{Each, each-none, each-more, Sorted, sorted-none, sorted-more}
 use Rattle.meaning.specs.Range.{Item}
@@ -21,6 +18,7 @@ use Rattle.meaning.proofs.Order.{each-at, each-of, each-map, each-both, Nodup}
 use Rattle.meaning.proofs.Theory.{Deduction, bounded, map-mem}
 use Rattle.meaning.proofs.Charts.{deduction}
 use Rattle.meaning.proofs.Determined.{valid-input, room-most}
+use Rattle.claims.proofs.Codes.{refusal-code}
 
 -- one item of each height from n down to 1
 record Stairs {A : Type 0} (Made : A → ℕ → Type 0) (n : ℕ) (l : List (Known A)) : Type 0 where
@@ -106,29 +104,13 @@ module _ (G : Grammar) (ws : List ℕ) where
         more = omega (arith, length-map ys item, s .many);
       }))
 
-refusal-below : (r : Refusal) → codeOf r < 16
-refusal-below (Short p) = omega arith
-refusal-below Mark = omega arith
-refusal-below Version = omega arith
-refusal-below (Range p) = omega arith
-refusal-below (Category p) = omega arith
-refusal-below (Function p) = omega arith
-refusal-below (Symbol p) = omega arith
-refusal-below (Twice p) = omega arith
-refusal-below (Missing p) = omega arith
-refusal-below (Start p) = omega arith
-refusal-below (Trailing p) = omega arith
-refusal-below Long = omega arith
-refusal-below (Odd p) = omega arith
-refusal-below (ZeroWord p) = omega arith
-
 verdict-below : {G : Grammar} {ws : List ℕ} {C : List (Entry Item)} {c p : ℕ} → Verdict G ws C c p → c < 2
 verdict-below (yes-at e) = omega arith
 verdict-below (no-goal n) = omega arith
 
 -- 'All heights up to the greatest occur, so none passes the count': the reader gives no 22
 pub never-deep : {t w : List ℕ} {allowance : ℕ} {b : List ℕ} {c p n : ℕ} {a : List ℕ} → Read t w allowance b c p n a → c ≡ 22 → ⊥
-never-deep (bad-input {r = r} e) h = omega (arith, refusal-below r)
+never-deep (bad-input {r = r} e) h = omega (arith, refusal-code r .1)
 never-deep (full e o) h = omega arith
 never-deep {t} {w} {allowance} {b} (deep e o d) h = deep-over (grammarOf t) (wordsOf w) (room allowance b) (valid-input t w e) (d .height) (omega (arith, d .passes, room-most allowance b)) o
 never-deep (read e c l v) h = omega (arith, verdict-below v)

@@ -1,3 +1,4 @@
+pub mod Codes
 -- Deep is never given
 pub mod Heights
 -- two tables that are checked alike, and what is then allowed for both
@@ -11,3 +12,8 @@ pub mod Permutation
 pub mod Moved
 pub mod Blocks
 pub mod RuleOrder
+-- what passes the tree writer's check, and the reader's own charts
+pub mod Passed
+-- the writers and the reader, one after the other
+pub mod Spoken
+pub mod RoundTrip

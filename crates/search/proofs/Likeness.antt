@@ -3,7 +3,7 @@
 use Prim.Native.Nat.{ℕ, zero, suc, _+_, _*_, _-_, _≤_, _<_}
 use mathlib.Core.Path.{_≡_, refl, sym, ap, ap₂, _∙_, subst}
 use mathlib.Core.Bool.{cond}
-use mathlib.Core.Logic.{inl, inr, ⊎-elim}
+use mathlib.Core.Logic.{⊎-elim}
 use mathlib.Core.List.{List, [], _∷_, List·Memᴰ as Mem}
 use native.Mathlib.Omega.{arith}
 use lib.ListN.{length, getD}
@@ -16,11 +16,9 @@ use Rattle.meaning.specs.Decode.{past, several, symbolAt, rowAt, rowEnd, rowsOf
 use Rattle.meaning.proofs.Places.{past-grows, row-is, rows-are, row-grows, rule-grows, table-most}
 use Rattle.meaning.proofs.Decoded.{mem-several}
 use Rattle.store.proofs.Laws.{lt-or-ge}
-use Rattle.store.specs.Code.{unpacked}
 use Rattle.phrase.specs.declared.items.Item.{Item as CodedItem}
 use Rattle.phrase.specs.Phrase.{RuleOf}
 use Rattle.phrase.proofs.RuleThere.{fine}
-use Rattle.hint.specs.Hint.{Completes, Does}
 use Rattle.search.specs.Tried.{Tried, noneOf, blankItem, ByRules}
 use Rattle.search.specs.Likeness.{Like, LikeBefore}
 use Rattle.search.proofs.Ruling.{open-none, place, by-cases}

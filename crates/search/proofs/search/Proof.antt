@@ -56,7 +56,7 @@ loop-less : tie.Need-loop-less Inv-loop μ-loop
 loop-less c = omega (arith, c .before .before .before .before .before .before .before .before .loop .inv .2 .count)
 
 loop-again : tie.Need-loop-again Inv-loop μ-loop
-loop-again c = ((c .before .before .before .before .before .advance .kept .1 .1 .0) ∙ c .before .before .before .before .before .before .before .before .loop .inv .0, (c .before .before .before .before .before .advance .kept .1 .1 .1 .1 .0) ∙ c .before .before .before .before .before .before .before .before .loop .inv .1, search-on (c .before .before .before .before .before .before .before .before .loop .inv .2) (c .before .before .before .before .before .advance .ensures) (c .before .if1 .left) (c .if2 .left) (c .before .before .before .before .before .advance .kept .1 .1 .0) (c .before .before .before .before .before .advance .kept .1 .1 .1 .1 .0) _ (omega arith))
+loop-again c = ((c .before .before .before .before .before .advance .kept .1 .1 .0) ∙ c .before .before .before .before .before .before .before .before .loop .inv .0, (c .before .before .before .before .before .advance .kept .1 .1 .1 .1 .0) ∙ c .before .before .before .before .before .before .before .before .loop .inv .1, search-on (c .before .before .before .before .before .before .before .before .loop .inv .2) (c .before .before .before .before .before .advance .ensures) (λ e. omega arith) (omega arith) (c .before .before .before .before .before .advance .kept .1 .1 .0) (c .before .before .before .before .before .advance .kept .1 .1 .1 .1 .0) _ (omega arith))
 
 pub search-spec : {M : Type 1} → statement M
 search-spec =

@@ -19,7 +19,7 @@ abbrev μ-loop : tie.MeasureT-loop
 μ-loop table words chart count i₀ i = count - i
 
 returns : tie.Need-returns Inv-loop μ-loop
-returns c = many (inl (c .if1 .taken))
+returns c = many (inl (omega arith))
 
 returns-2 : tie.Need-returns-2 Inv-loop μ-loop
 returns-2 c = many (inr (c .if2 .taken))

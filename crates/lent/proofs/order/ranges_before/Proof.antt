@@ -28,7 +28,7 @@ returns c =
     let l = c .before .before .before .before .loop in
     let e = c .before .before .number .ensures in
     let f = c .before .number2 .ensures in
-    holds (l .inv .1 .1 (rest-less (a .chart .now) (a .i) (a .j) (l .k) (c .before .before .before .loop-test .taken) (omega arith)))
+    holds (l .inv .1 .1 (rest-less (a .chart .now) (a .i) (a .j) (l .k) (omega arith) (omega arith)))
 
 returns-2 : tie.Need-returns-2 Inv-loop μ-loop
 returns-2 c =
@@ -36,7 +36,7 @@ returns-2 c =
     let l = c .before .before .before .before .before .loop in
     let e = c .before .before .before .number .ensures in
     let f = c .before .before .number2 .ensures in
-    fails (λ r. rest-more (a .chart .now) (a .i) (a .j) (l .k) (c .before .before .before .before .loop-test .taken) (omega arith) (l .inv .1 .0 r))
+    fails (λ r. rest-more (a .chart .now) (a .i) (a .j) (l .k) (omega arith) (omega arith) (l .inv .1 .0 r))
 
 add-k : tie.Need-add-k Inv-loop μ-loop
 add-k c = search needs
@@ -50,7 +50,7 @@ loop-again c =
     let l = c .before .before .before .before .before .loop in
     let e = c .before .before .before .number .ensures in
     let f = c .before .before .number2 .ensures in
-    let s = rest-on (a .chart .now) (a .i) (a .j) (l .k) (c .before .before .before .before .loop-test .taken) (omega arith) in
+    let s = rest-on (a .chart .now) (a .i) (a .j) (l .k) (omega arith) (omega arith) in
     (omega arith, (λ r. s .0 (l .inv .1 .0 r), λ r. l .inv .1 .1 (s .1 r)))
 
 returns-3 : tie.Need-returns-3 Inv-loop μ-loop

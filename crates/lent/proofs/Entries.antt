@@ -1,21 +1,21 @@
 -- The entries of a lent chart: what stands at a place, and a record's daughters and unused numbers.
 use Prim.Native.Nat.{ℕ, zero, suc, _+_, _*_, _-_, _≤_, _<_}
 use mathlib.Core.Path.{_≡_, refl, sym, ap, _∙_, subst}
-use mathlib.Core.Option.{Option, some}
-use mathlib.Core.List.{List, [], _∷_, map, List·Memᴰ as Mem, nil≢cons, cons≢nil}
+use mathlib.Core.Option.{some}
+use mathlib.Core.List.{List, [], _∷_, map, nil≢cons, cons≢nil}
 use native.Mathlib.Omega.{arith}
 use native.Mathlib.Decide.{decLt}
 use lib.ListN.{length, getD, getElem?, take, length-take, length-map, List·getD-eq-default}
 use lib.Seq.{slice, length-slice, getD-take, ext-getD}
 use Rattle.meaning.specs.Order.{Each, each-none, each-more}
 use Rattle.meaning.specs.Range.{Item}
-use Rattle.meaning.specs.Grammar.{Rule, Grammar}
+use Rattle.meaning.specs.Grammar.{Grammar}
 use Rattle.meaning.specs.Chart.{Known, Entry, knowns, shown}
 use Rattle.meaning.specs.Decode.{several}
-use Rattle.meaning.specs.TreeWriting.{named, rankOf, recordAt, statedAt, entryAt, lent}
+use Rattle.meaning.specs.TreeWriting.{recordAt, statedAt, entryAt, lent}
 use Rattle.meaning.proofs.Order.{each-at}
 use Rattle.meaning.proofs.Decoded.{several-length}
-use Rattle.meaning.proofs.Passing.{getD-mem, slice-at, Shows, record-is}
+use Rattle.meaning.proofs.Passing.{getD-mem, slice-at, record-is}
 use Rattle.lent.specs.Lent.{numberAt, numbersAt, Placed}
 
 -- what stands at a place is what its record states
@@ -24,38 +24,46 @@ inside [] p e = let z : _≡_ {A = ℕ} 0 1 = cc in absurd (omega arith)
 inside (b ∷ l) zero e = omega arith
 inside (b ∷ l) (suc p) e = let h = inside l p e in omega arith
 
-module _ (G : Grammar) (c : List ℕ) where
-  known-from : (n at p : ℕ) → p < n → getElem? (knowns (several n (entryAt G c) suc at)) p ≡ some (statedAt c (at + p))
-  unfolding several entryAt
-  known-from zero at p h = absurd (omega arith)
-  known-from (suc n) at zero h = let e : at ≡ at + 0 = omega arith in ap (λ (q : ℕ). some (statedAt c q)) e
-  known-from (suc n) at (suc p) h = let e : suc at + p ≡ at + suc p = omega arith in known-from n (suc at) p (omega arith) ∙ ap (λ (q : ℕ). some (statedAt c q)) e
+at-several : {A : Type 0} (f : ℕ → A) (n at p : ℕ) → p < n → getElem? (several n f suc at) p ≡ some (f (at + p))
+unfolding several
+at-several f zero at p h = absurd (omega arith)
+at-several f (suc n) at zero h = let e : at ≡ at + 0 = omega arith in ap (λ (q : ℕ). some (f q)) e
+at-several f (suc n) at (suc p) h = let e : suc at + p ≡ at + suc p = omega arith in at-several f n (suc at) p (omega arith) ∙ ap (λ (q : ℕ). some (f q)) e
 
-  module _ (count : ℕ) where
-    known-at : (p : ℕ) → p < count → getElem? (knowns (lent G c count)) p ≡ some (statedAt c p)
-    unfolding lent
-    known-at p h = let e : 0 + p ≡ p = omega arith in known-from count 0 p h ∙ ap (λ (q : ℕ). some (statedAt c q)) e
+at-image : {A B : Type 0} (f : A → B) (l : List A) (p : ℕ) {a : A} → getElem? l p ≡ some a → getElem? (map f l) p ≡ some (f a)
+at-image f [] p e = let z : _≡_ {A = ℕ} 0 1 = cc in absurd (omega arith)
+at-image f (b ∷ l) zero e = cc
+at-image f (b ∷ l) (suc p) e = at-image f l p e
 
-    below-count : (p : ℕ) {d : Known Item} → getElem? (knowns (lent G c count)) p ≡ some d → p < count
-    unfolding lent
-    below-count p e = omega (arith, inside (knowns (lent G c count)) p e, length-map (lent G c count) (λ (x : Entry Item). x .known), several-length (entryAt G c) suc count 0)
+module _ (G : Grammar) (c : List ℕ) (count : ℕ) where
+  pub entry-at : (p : ℕ) → p < count → getElem? (lent G c count) p ≡ some (entryAt G c p)
+  unfolding lent
+  entry-at p h = let e : 0 + p ≡ p = omega arith in at-several (entryAt G c) count 0 p h ∙ ap (λ (q : ℕ). some (entryAt G c q)) e
 
-    pub found-all : {ps : List ℕ} → Each (λ p. p < count) ps → map (getElem? (knowns (lent G c count))) ps ≡ map some (map (statedAt c) ps)
-    found-all each-none = refl
-    found-all (each-more {a = p} h hs) = let e = known-at p h in let f = found-all hs in cc
+  known-at : (p : ℕ) → p < count → getElem? (knowns (lent G c count)) p ≡ some (statedAt c p)
+  unfolding entryAt
+  known-at p h = at-image (λ (e : Entry Item). e .known) (lent G c count) p (entry-at p h)
 
-    pub found-below : (ps : List ℕ) (ds : List (Known Item)) → map (getElem? (knowns (lent G c count))) ps ≡ map some ds
-        → Each (λ p. p < count) ps × (ds ≡ map (statedAt c) ps)
-    found-below [] [] e = (each-none, refl)
-    found-below [] (d ∷ ds) e = absurd (nil≢cons e)
-    found-below (p ∷ ps) [] e = absurd (cons≢nil e)
-    found-below (p ∷ ps) (d ∷ ds) e =
-        let h : getElem? (knowns (lent G c count)) p ≡ some d = cc in
-        let b = below-count p h in
-        let k = known-at p b in
-        let q : d ≡ statedAt c p = cc in
-        let (hs, qs) = found-below ps ds (cc) in
-        (each-more b hs, cc)
+  below-count : (p : ℕ) {d : Known Item} → getElem? (knowns (lent G c count)) p ≡ some d → p < count
+  unfolding lent
+  below-count p e = omega (arith, inside (knowns (lent G c count)) p e, length-map (lent G c count) (λ (x : Entry Item). x .known), several-length (entryAt G c) suc count 0)
+
+  pub found-all : {ps : List ℕ} → Each (λ p. p < count) ps → map (getElem? (knowns (lent G c count))) ps ≡ map some (map (statedAt c) ps)
+  found-all each-none = refl
+  found-all (each-more {a = p} h hs) = let e = known-at p h in let f = found-all hs in cc
+
+  pub found-below : (ps : List ℕ) (ds : List (Known Item)) → map (getElem? (knowns (lent G c count))) ps ≡ map some ds
+      → Each (λ p. p < count) ps × (ds ≡ map (statedAt c) ps)
+  found-below [] [] e = (each-none, refl)
+  found-below [] (d ∷ ds) e = absurd (nil≢cons e)
+  found-below (p ∷ ps) [] e = absurd (cons≢nil e)
+  found-below (p ∷ ps) (d ∷ ds) e =
+      let h : getElem? (knowns (lent G c count)) p ≡ some d = cc in
+      let b = below-count p h in
+      let k = known-at p b in
+      let q : d ≡ statedAt c p = cc in
+      let (hs, qs) = found-below ps ds (cc) in
+      (each-more b hs, cc)
 
 -- a record's three places
 module _ (c : List ℕ) (i : ℕ) where

@@ -1,9 +1,8 @@
 -- What the tests of a record decide: its daughters' places, the item that is given, the height.
-use Prim.Native.Nat.{ℕ, suc, _+_, _≤_, _<_}
-use mathlib.Core.Path.{_≡_, refl, sym, ap, _∙_, subst}
+use Prim.Native.Nat.{ℕ, _+_, _<_}
+use mathlib.Core.Path.{_≡_, sym, ap, _∙_}
 use mathlib.Core.List.{List}
 use native.Mathlib.Omega.{arith}
-use native.Mathlib.Numerals.{add-one}
 use Rattle.meaning.specs.Range.{Item}
 use Rattle.meaning.specs.Giving.{Gives}
 use Rattle.meaning.specs.Chart.{Known, tallest, things}

@@ -4,3 +4,4 @@ pub mod Judging
 pub mod Entries
 pub mod Sounding
 pub mod Passed
+pub mod Once

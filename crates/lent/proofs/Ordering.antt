@@ -1,41 +1,40 @@
 -- Chart order, number by number.
-use Prim.Native.Nat.{ℕ, zero, suc, _+_, _-_, _≤_, _<_}
-use mathlib.Core.Path.{_≡_, refl, sym, ap, _∙_}
-use mathlib.Core.Logic.{_⊎_, inl, inr}
+use Prim.Native.Nat.{ℕ, suc, _+_, _-_, _≤_, _<_}
+use mathlib.Core.Path.{_≡_, refl, ap, _∙_}
+use mathlib.Core.Logic.{inl, inr}
 use mathlib.Core.List.{List, [], _∷_}
 use mathlib.Core.Bool.{Bool}
 use native.Mathlib.Omega.{arith}
-use native.Mathlib.Numerals.{add-one}
 use Rattle.meaning.specs.Order.{Lex}
 use Rattle.meaning.specs.Range.{numbers}
 use Rattle.meaning.specs.Chart.{Before}
 use Rattle.meaning.specs.Decode.{several}
 use Rattle.meaning.specs.TreeWriting.{statedAt}
-use Rattle.phrase.specs.Phrase.{Decides, holds, fails}
+use Rattle.phrase.specs.Phrase.{Decides}
 use Rattle.phrase.proofs.Fit.{instead}
 use Rattle.lent.specs.Lent.{numberAt, numbersAt, After}
 
 -- two lists by their first numbers
 module _ (x y : ℕ) (a b : List ℕ) where
-  pub lex-less : x < y → Lex (x ∷ a) (y ∷ b)
+  lex-less : x < y → Lex (x ∷ a) (y ∷ b)
   unfolding Lex
   lex-less h = inl h
 
-  pub lex-more : y < x → Lex (x ∷ a) (y ∷ b) → ⊥
+  lex-more : y < x → Lex (x ∷ a) (y ∷ b) → ⊥
   unfolding Lex
   lex-more h (inl l) = omega arith
   lex-more h (inr l) = omega (arith, l .0)
 
-  pub lex-on : x ≡ y → Lex a b → Lex (x ∷ a) (y ∷ b)
+  lex-on : x ≡ y → Lex a b → Lex (x ∷ a) (y ∷ b)
   unfolding Lex
   lex-on e l = inr (e, l)
 
-  pub lex-off : x ≡ y → Lex (x ∷ a) (y ∷ b) → Lex a b
+  lex-off : x ≡ y → Lex (x ∷ a) (y ∷ b) → Lex a b
   unfolding Lex
   lex-off e (inl h) = absurd (omega arith)
   lex-off e (inr l) = l .1
 
-pub lex-none : Lex [] [] → ⊥
+lex-none : Lex [] [] → ⊥
 unfolding Lex
 lex-none h = h
 
@@ -43,29 +42,29 @@ lex-none h = h
 abbrev pub Same : Type 0 → Type 0 → Type 0
 Same P Q = (P → Q) × (Q → P)
 
--- the range numbers from number k on, of records i and j
-module _ (c : List ℕ) (i j k : ℕ) where
-  abbrev pub Rest : Type 0
-  Rest = Lex (numbersAt c i (9 - k) k) (numbersAt c j (9 - k) k)
-
-  turn : (i : ℕ) → k < 9 → numbersAt c i (9 - k) k ≡ numberAt c i k ∷ numbersAt c i (9 - (k + 1)) (k + 1)
-  unfolding several
-  turn i h =
-      let e : 9 - k ≡ suc (9 - (k + 1)) = omega arith in
-      let f : suc k ≡ k + 1 = omega arith in
-      ap (λ (n : ℕ). numbersAt c i n k) e ∙ ap (λ (m : ℕ). numberAt c i k ∷ numbersAt c i (9 - (k + 1)) m) f
-
-  pub rest-less : k < 9 → numberAt c i k < numberAt c j k → Rest
-  rest-less h l = rw (turn i h, turn j h) (lex-less _ _ _ _ l)
-
-  pub rest-more : k < 9 → numberAt c j k < numberAt c i k → Rest → ⊥
-  rest-more h l r = lex-more _ _ _ _ l (rw (turn i h, turn j h) at r)
+-- the range numbers of record i from number k on
+turn : (c : List ℕ) (i k : ℕ) → k < 9 → numbersAt c i (9 - k) k ≡ numberAt c i k ∷ numbersAt c i (9 - (k + 1)) (k + 1)
+unfolding several
+turn c i k h =
+    let e : 9 - k ≡ suc (9 - (k + 1)) = omega arith in
+    let f : suc k ≡ k + 1 = omega arith in
+    ap (λ (n : ℕ). numbersAt c i n k) e ∙ ap (λ (m : ℕ). numberAt c i k ∷ numbersAt c i (9 - (k + 1)) m) f
 
 module _ (c : List ℕ) (i j : ℕ) where
-  pub rest-on : (k : ℕ) → k < 9 → numberAt c i k ≡ numberAt c j k → Same (Rest c i j k) (Rest c i j (k + 1))
-  rest-on k h e = (λ r. lex-off _ _ _ _ e (rw (turn c i j k i h, turn c i j k j h) at r), λ r. rw (turn c i j k i h, turn c i j k j h) (lex-on _ _ _ _ e r))
+  -- those of record i come before those of record j
+  abbrev pub Rest : ℕ → Type 0
+  Rest k = Lex (numbersAt c i (9 - k) k) (numbersAt c j (9 - k) k)
 
-  pub rest-none : (k : ℕ) → 9 ≤ k → Rest c i j k → ⊥
+  pub rest-less : (k : ℕ) → k < 9 → numberAt c i k < numberAt c j k → Rest k
+  rest-less k h l = rw (turn c i k h, turn c j k h) (lex-less _ _ _ _ l)
+
+  pub rest-more : (k : ℕ) → k < 9 → numberAt c j k < numberAt c i k → Rest k → ⊥
+  rest-more k h l r = lex-more _ _ _ _ l (rw (turn c i k h, turn c j k h) at r)
+
+  pub rest-on : (k : ℕ) → k < 9 → numberAt c i k ≡ numberAt c j k → Same (Rest k) (Rest (k + 1))
+  rest-on k h e = (λ r. lex-off _ _ _ _ e (rw (turn c i k h, turn c j k h) at r), λ r. rw (turn c i k h, turn c j k h) (lex-on _ _ _ _ e r))
+
+  pub rest-none : (k : ℕ) → 9 ≤ k → Rest k → ⊥
   unfolding several
   rest-none k h r = let e : 9 - k ≡ 0 = omega arith in lex-none (rw e at r)
 

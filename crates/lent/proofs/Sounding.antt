@@ -1,9 +1,9 @@
 -- When a record of a lent chart is sound: its function is known, it is after its predecessor, and it is a way by its function's rule.
 use Prim.Native.Nat.{ℕ, suc, _+_, _*_, _/_, _≤_, _<_}
-use mathlib.Core.Path.{_≡_, refl, sym, ap, _∙_, subst}
-use mathlib.Core.Logic.{_⊎_, inl, inr}
-use mathlib.Core.Option.{Option, none, some}
-use mathlib.Core.Bool.{Bool, false}
+use mathlib.Core.Path.{_≡_, sym, ap, _∙_, subst}
+use mathlib.Core.Logic.{inl, inr}
+use mathlib.Core.Option.{none, some}
+use mathlib.Core.Bool.{Bool}
 use mathlib.Core.List.{List, map}
 use native.Mathlib.Omega.{arith}
 use native.Mathlib.Decide.{decLt}
@@ -12,7 +12,7 @@ use Rattle.meaning.specs.Order.{Each}
 use Rattle.meaning.specs.Range.{Item}
 use Rattle.meaning.specs.Grammar.{Rule}
 use Rattle.meaning.specs.Giving.{Gives}
-use Rattle.meaning.specs.Chart.{Known, Way, tallest, things, GivenBy}
+use Rattle.meaning.specs.Chart.{Known, tallest, things, GivenBy}
 use Rattle.meaning.specs.Table.{got, checkTable, byte, rankOf}
 use Rattle.meaning.specs.Decode.{ruleAt, grammarOf}
 use Rattle.meaning.specs.TreeWriting.{named, statedAt, entryAt, Sound, TooMany}
@@ -21,7 +21,7 @@ use Rattle.meaning.proofs.Decoded.{several-length, valid-grammar}
 use Rattle.table.specs.declared.walk.Found.{Found}
 use Rattle.table.specs.declared.walk.Found.the-variants.{At, Unknown}
 use Rattle.table.specs.Walk.{Finds, known, unknown}
-use Rattle.phrase.specs.Phrase.{RuleOf, Decides, holds, fails}
+use Rattle.phrase.specs.Phrase.{RuleOf, Decides}
 use Rattle.phrase.proofs.Fit.{instead}
 use Rattle.phrase.proofs.RuleThere.{fine}
 use Rattle.lent.specs.Lent.{numberAt, daughtersAt, After, WayAt}

@@ -1,5 +1,5 @@
 -- What the code's items and daughters are in a lent chart: what the records state, its daughters and their greatest height.
-use Prim.Native.Nat.{ℕ, zero, suc, _+_, _*_, _≤_, _<_, max}
+use Prim.Native.Nat.{ℕ, zero, suc, _≤_, _<_, max}
 use mathlib.Core.Path.{_≡_, refl, sym, ap, _∙_}
 use mathlib.Core.List.{List, [], _∷_, map}
 use native.Mathlib.Omega.{arith}
@@ -9,9 +9,8 @@ use Rattle.meaning.specs.Range.{Item}
 use Rattle.meaning.specs.Chart.{Known, tallest, things}
 use Rattle.meaning.specs.Decode.{several}
 use Rattle.meaning.specs.TreeWriting.{statedAt}
-use Rattle.phrase.specs.declared.items.Item.{Item as CodedItem}
 use Rattle.phrase.specs.declared.items.Daughters.{Daughters}
-use Rattle.phrase.specs.Phrase.{itemOf, itemsOf}
+use Rattle.phrase.specs.Phrase.{itemsOf}
 use Rattle.lent.specs.Lent.{knownOf, knownsOf, numberAt, numbersAt, daughtersAt}
 
 -- eight numbers of a record are what it states

@@ -34,7 +34,7 @@ use Rattle.hint.specs.Hint.{seat, Open, heldAs, unknown, Partial, Completes, Do
 use Rattle.search.specs.Level.{Ready, Filled, Some}
 use Rattle.store.proofs.Laws.{mem-at}
 use Rattle.search.proofs.Filling.{same, jump, loop-begins, loop-ends, loop-turns, loop-stops}
-use Rattle.search.specs.Tried.{coded, put, In, Tried, open-at, opens, Trying, SpotsFor, Trial}
+use Rattle.search.specs.Tried.{coded, put, In, Tried, open-at, opens, Trying, SpotsFor, AllChosen, Trial}
 
 -- the code's item is the item of the code
 pub coded-known : (c : ℕ) → heldAs (coded c) ≡ knownOf c
@@ -248,6 +248,9 @@ module _ {t ws : List ℕ} {rule : ℕ} {goal : CodedItem} {d : Daughters} {K : 
   pub trial-on : Trying t ws rule goal (put d k (coded c)) K left
   trial-on = trying-on k c left (T .trying) (T .below) (T .chooses) (T .there) refl
 
+  pub trial-last : left ≡ 0 → Trying t ws rule goal (put d k (coded c)) K 0
+  trial-last e = subst (λ (l : ℕ). Trying t ws rule goal (put d k (coded c)) K l) e trial-on
+
   pub trial-off : (Meets w (knownOf c) → ⊥) → (x : ℕ) → Tried t ws rule goal (put d k (coded c)) K x → ⊥
   trial-off n x v = n (seat-meets d (T .trying .partial .few) k (T .below) (T .chooses) c (T .trying .codes c (T .there) .0) (v .completes) (v .does) w (T .asks))
 
@@ -284,6 +287,10 @@ module _ {t ws : List ℕ} {rule : ℕ} {goal : CodedItem} {d : Daughters} {K : 
         pub walk-stops : length a < r → Filled K h (Tried t ws rule goal d K) a n c r
         walk-stops q = same (loop-stops K i (omega (arith, S .end)) f fit len v q)
             (λ x q. one-chosen (T .partial .few) k below o (coded (q .which)) x (q .does)) (chosen-one (T .partial .few) k below o)
+
+-- where none is left all are chosen
+pub all-chosen-at : {t ws : List ℕ} {rule : ℕ} {goal : CodedItem} {d : Daughters} {K : List ℕ} → Trying t ws rule goal d K 0 → AllChosen d
+all-chosen-at {d = d} T k l o = omega (arith, some-open d k (T .partial .few) l o, T .fewer)
 
 -- where all are chosen none is left
 pub none-left : {t ws : List ℕ} {rule : ℕ} {goal : CodedItem} {d : Daughters} {K : List ℕ} {left : ℕ} → Trying t ws rule goal d K left → ((k : ℕ) → k < d .count → Open d k → ⊥) → Trying t ws rule goal d K 0

@@ -7,3 +7,4 @@ pub mod Whole
 pub mod Choosing
 pub mod Offers
 pub mod Ruling
+pub mod Likeness

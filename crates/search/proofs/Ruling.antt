@@ -86,20 +86,21 @@ code-fine t ws e short c l =
     let s = key-small (unpacked (keyOf c)) (made-small t ws e short (unpacked (keyOf c)) (heightOf c) (l .made)) in
     (k .0, omega (arith, pack-unpack (keyOf c)))
 
-module _ (t ws K : List ℕ) (h : ℕ) where
-  abbrev place : ℕ → ℕ
-  place i = past i (ruleEnd t) (firstRule t)
+-- where rule i starts
+abbrev pub place : List ℕ → ℕ → ℕ
+place t i = past i (ruleEnd t) (firstRule t)
 
+module _ (t ws K : List ℕ) (h : ℕ) where
   pub by-level : (n x : ℕ) → checkTable t ≡ got tt → ByRules t ws K h n x → n ≤ number t 7 → Level (KeyGiven t ws) K h x
   unfolding KeyGiven GivenBy ruleAt
   by-level n x e w l =
       let (cs, ms, q) = in-all (w .tried .full) (w .tried .among) in
-      let g : Gives (grammarOf t) ws (ruleAt t (place (w .index))) (map unpacked (map keyOf cs)) (unpacked x) = rw (← same-things cs, q) (w .tried .does .gives) in
+      let g : Gives (grammarOf t) ws (ruleAt t (place t (w .index))) (map unpacked (map keyOf cs)) (unpacked x) = rw (← same-things cs, q) (w .tried .does .gives) in
       record {
-        function = number t (place (w .index));
+        function = number t (place t (w .index));
         codes = cs;
         among = ms;
-        gives = (ruleAt t (place (w .index)), refl, g);
+        gives = (ruleAt t (place t (w .index)), refl, g);
         high = omega (arith, same-tallest cs, ap tallest q, w .tried .does .high);
       }
 
@@ -108,24 +109,29 @@ module _ (t ws K : List ℕ) (h : ℕ) where
   level-by x w =
       let (r, f, g) = w .gives in
       let (i, l, q) = several-mem (ruleAt t) (ruleEnd t) (number t 7) (firstRule t) (g .known) in
-      let g′ : Gives (grammarOf t) ws (ruleAt t (place i)) (things (knowns-of (w .codes))) (unpacked x) = subst (λ (s : Rule). Gives (grammarOf t) ws s (things (knowns-of (w .codes))) (unpacked x)) q (rw (same-things (w .codes)) g) in
+      let g′ : Gives (grammarOf t) ws (ruleAt t (place t i)) (things (knowns-of (w .codes))) (unpacked x) = subst (λ (s : Rule). Gives (grammarOf t) ws s (things (knowns-of (w .codes))) (unpacked x)) q (rw (same-things (w .codes)) g) in
       record {
         index = i;
         below = l;
         tried = record {
           full = knowns-of (w .codes);
-          completes = record { size = full-size t ws (place i) (knowns-of (w .codes)) g′; keeps = λ k h n. absurd (n (open-none (rankOf t (place i)) k)) };
+          completes = record { size = full-size t ws (place t i) (knowns-of (w .codes)) g′; keeps = λ k h n. absurd (n (open-none (rankOf t (place t i)) k)) };
           among = all-in (w .among);
           does = record { gives = g′; high = omega (arith, same-tallest (w .codes), w .high); same = λ n. absurd (n refl) };
         };
       }
 
+  -- what one of the first i + 1 rules gives, one of the first i gives, or rule i
+  pub by-cases : (i x : ℕ) → ByRules t ws K h (i + 1) x → ByRules t ws K h i x ⊎ Tried t ws (place t i) (blankItem (h + 1)) (noneOf (rankOf t (place t i))) K x
+  by-cases i x s = ⊎-elim (λ l. inl (record { index = s .index; below = l; tried = s .tried }))
+      (λ g. inr (let e : s .index ≡ i = omega (arith, s .below) in subst (λ (j : ℕ). Tried t ws (place t j) (blankItem (h + 1)) (noneOf (rankOf t (place t j))) K x) e (s .tried))) (lt-or-ge (s .index) i)
+
   -- what is known when a rule is tried from nothing
   module _ (A : Asked t ws K h) where
-    pub rule-of : (i : ℕ) → i < number t 7 → RuleOf t (place i)
+    pub rule-of : (i : ℕ) → i < number t 7 → RuleOf t (place t i)
     rule-of i l = record { accepted = A .accepted; index = i; below = l; there = refl }
 
-    pub trying-none : (i : ℕ) → i < number t 7 → Trying t ws (place i) (blankItem (h + 1)) (noneOf (rankOf t (place i))) K (rankOf t (place i))
+    pub trying-none : (i : ℕ) → i < number t 7 → Trying t ws (place t i) (blankItem (h + 1)) (noneOf (rankOf t (place t i))) K (rankOf t (place t i))
     trying-none i l = record {
       there = rule-of i l;
       short = A .short;
@@ -133,58 +139,71 @@ module _ (t ws K : List ℕ) (h : ℕ) where
       any = refl;
       low = omega arith;
       high = omega (arith, A .low);
-      partial = record { few = few; past = λ k a b. open-none (rankOf t (place i)) k; blank = λ k a b. blank-none (rankOf t (place i)) k };
+      partial = record { few = few; past = λ k a b. open-none (rankOf t (place t i)) k; blank = λ k a b. blank-none (rankOf t (place t i)) k };
       count = refl;
       codes = λ c m. code-fine t ws (A .accepted) (A .short) c (A .exact .right c m);
-      drawn = λ k a n. absurd (n (open-none (rankOf t (place i)) k));
-      fewer = open-count (rankOf t (place i)) few;
+      drawn = λ k a n. absurd (n (open-none (rankOf t (place t i)) k));
+      fewer = open-count (rankOf t (place t i)) few;
     }
       where
-        few : rankOf t (place i) ≤ 3
+        few : rankOf t (place t i) ≤ 3
         few = fine-table t (A .accepted) .rules i l .rank
 
-  -- rule by rule
-  module _ {a : List ℕ} where
-    pub rules-begin : Ready K (h + 1) a 0 → Filled K (h + 1) (ByRules t ws K h 0) a 0 a 0
-    rules-begin y = nothing-yet y (λ x w. omega (arith, w .below))
+-- what the first i rules give has been added to nothing in a: now the first m of b, which is as long
+pub record ByFirst (t ws K : List ℕ) (h : ℕ) (a : List ℕ) (i : ℕ) (b : List ℕ) (m : ℕ) : Type 0 where
+  pub long : length b ≡ length a
+  pub fit : m ≤ length a
+  pub filled : Filled K (h + 1) (ByRules t ws K h i) a 0 b m
 
-    module _ {b : List ℕ} {m : ℕ} (i : ℕ) (w : Filled K (h + 1) (ByRules t ws K h i) a 0 b m) where
-      pub rules-end : checkTable t ≡ got tt → i ≡ number t 7 → Filled K (h + 1) (Level (KeyGiven t ws) K h) a 0 b m
-      rules-end e q = same w (λ x v. by-level i x e v (omega arith)) (λ x v. rw q (level-by x v))
+-- rule by rule
+module _ {t ws K : List ℕ} {h : ℕ} {a : List ℕ} where
+  pub rules-begin : Ready K (h + 1) a 0 → ByFirst t ws K h a 0 a 0
+  rules-begin y = record { long = refl; fit = omega arith; filled = nothing-yet y (λ x w. omega (arith, w .below)) }
 
-      module _ (fit : m ≤ length a) (len : length b ≡ length a) {c : List ℕ} {r : ℕ} (v : Filled K (h + 1) (Tried t ws (place i) (blankItem (h + 1)) (noneOf (rankOf t (place i))) K) b m c r) where
-        pub rules-turn : Filled K (h + 1) (ByRules t ws K h (i + 1)) a 0 c r
-        rules-turn = then w fit len v (λ x s. record { index = s .index; below = omega (arith, s .below); tried = s .tried }) (λ x s. record { index = i; below = omega arith; tried = s })
-            (λ x s. ⊎-elim (λ l. inl (record { index = s .index; below = l; tried = s .tried })) (λ g. inr (let e : s .index ≡ i = omega (arith, s .below) in subst (λ (j : ℕ). Tried t ws (place j) (blankItem (h + 1)) (noneOf (rankOf t (place j))) K x) e (s .tried))) (lt-or-ge (s .index) i))
+  pub rules-same : {i : ℕ} {b b′ : List ℕ} {m m′ : ℕ} → b′ ≡ b → m′ ≡ m → ByFirst t ws K h a i b m → ByFirst t ws K h a i b′ m′
+  rules-same {i} {b} {b′} {m} {m′} e f w = subst (λ (c : List ℕ). ByFirst t ws K h a i c m′) (sym e) (subst (λ (n : ℕ). ByFirst t ws K h a i b n) (sym f) w)
 
-        pub rules-stop : checkTable t ≡ got tt → i < number t 7 → length a < r → Filled K (h + 1) (Level (KeyGiven t ws) K h) a 0 c r
-        rules-stop e l q = stop w fit len v q (λ x s. by-level i x e s (omega arith)) (λ x s. by-level (i + 1) x e (record { index = i; below = omega arith; tried = s }) (omega arith))
+  module _ {b : List ℕ} {m : ℕ} (i : ℕ) (w : ByFirst t ws K h a i b m) where
+    pub rules-end : checkTable t ≡ got tt → i ≡ number t 7 → Filled K (h + 1) (Level (KeyGiven t ws) K h) a 0 b m
+    rules-end e q = same (w .filled) (λ x v. by-level t ws K h i x e v (omega arith)) (λ x v. rw q (level-by t ws K h x v))
+
+    -- a rule more, of which nothing is tried that is not tried by those before
+    pub rules-skip : ((x : ℕ) → ByRules t ws K h (i + 1) x → ByRules t ws K h i x) → ByFirst t ws K h a (i + 1) b m
+    rules-skip f = record { long = w .long; fit = w .fit; filled = same (w .filled) (λ x s. record { index = s .index; below = omega (arith, s .below); tried = s .tried }) f }
+
+    module _ {c : List ℕ} {r : ℕ} (v : Filled K (h + 1) (Tried t ws (place t i) (blankItem (h + 1)) (noneOf (rankOf t (place t i))) K) b m c r) where
+      pub rules-turn : length c ≡ length b → r ≤ length c → ByFirst t ws K h a (i + 1) c r
+      rules-turn len l = record {
+        long = len ∙ w .long;
+        fit = omega (arith, w .long);
+        filled = then (w .filled) (w .fit) (w .long) v (λ x s. record { index = s .index; below = omega (arith, s .below); tried = s .tried }) (λ x s. record { index = i; below = omega arith; tried = s }) (by-cases t ws K h i);
+      }
+
+      pub rules-stop : checkTable t ≡ got tt → i < number t 7 → length a < r → Filled K (h + 1) (Level (KeyGiven t ws) K h) a 0 c r
+      rules-stop e l q = stop (w .filled) (w .fit) (w .long) v q (λ x s. by-level t ws K h i x e s (omega arith)) (λ x s. by-level t ws K h (i + 1) x e (record { index = i; below = omega arith; tried = s }) (omega arith))
 
 pub ready-at : {K a : List ℕ} {n : ℕ} (h g : ℕ) → g ≡ h + 1 → Ready K (h + 1) a n → Ready K g a n
 ready-at {K} {a} {n} h g e y = subst (λ (z : ℕ). Ready K z a n) (sym e) y
 
 -- for the loop over the rules: the rule at hand is the i-th, and the height is one more
 module _ {t ws K : List ℕ} {h : ℕ} where
-  pub same-height : Asked t ws K h → (h + 1) % 65536 ≡ h + 1
-  same-height A = omega (arith, A .low)
-
   pub ready-none : (a : List ℕ) → Asked t ws K h → Ready K (h + 1) a 0
   ready-none a A = record { known = A .exact .sorted; sorted = sorted-none; count = omega arith; height = omega (arith, A .low) }
 
-  pub trying-at : Asked t ws K h → (i rule g : ℕ) → i < number t 7 → rule ≡ past i (ruleEnd t) (firstRule t) → g ≡ h + 1 → Trying t ws rule (blankItem g) (noneOf (rankOf t rule)) K (rankOf t rule)
-  trying-at A i rule g l e f = subst (λ (r : ℕ). Trying t ws r (blankItem g) (noneOf (rankOf t r)) K (rankOf t r)) (sym e) (subst (λ (z : ℕ). Trying t ws (past i (ruleEnd t) (firstRule t)) (blankItem z) (noneOf (rankOf t (past i (ruleEnd t) (firstRule t)))) K (rankOf t (past i (ruleEnd t) (firstRule t)))) (sym f) (trying-none t ws K h A i l))
+  pub trying-at : Asked t ws K h → (i rule g : ℕ) → i < number t 7 → rule ≡ place t i → g ≡ h + 1 → Trying t ws rule (blankItem g) (noneOf (rankOf t rule)) K (rankOf t rule)
+  trying-at A i rule g l e f = subst (λ (r : ℕ). Trying t ws r (blankItem g) (noneOf (rankOf t r)) K (rankOf t r)) (sym e) (subst (λ (z : ℕ). Trying t ws (place t i) (blankItem z) (noneOf (rankOf t (place t i))) K (rankOf t (place t i))) (sym f) (trying-none t ws K h A i l))
 
-  pub rule-ends : Asked t ws K h → (i rule : ℕ) → i < number t 7 → rule ≡ past i (ruleEnd t) (firstRule t) → ruleEnd t rule ≤ length t
+  pub rule-ends : Asked t ws K h → (i rule : ℕ) → i < number t 7 → rule ≡ place t i → ruleEnd t rule ≤ length t
   rule-ends A i rule l e = subst (λ (r : ℕ). ruleEnd t r ≤ length t) (sym e) (fine-table t (A .accepted) .rules i l .end)
 
-pub next-place : (t : List ℕ) (i rule r : ℕ) → rule ≡ past i (ruleEnd t) (firstRule t) → r ≡ ruleEnd t rule → r ≡ past (i + 1) (ruleEnd t) (firstRule t)
-next-place t i rule r e f = f ∙ ap (ruleEnd t) e ∙ sym (past-suc i (ruleEnd t) (firstRule t)) ∙ ap (λ (n : ℕ). past n (ruleEnd t) (firstRule t)) (omega arith)
+pub next-place : (t : List ℕ) (i rule r : ℕ) → rule ≡ place t i → r ≡ ruleEnd t rule → r ≡ place t (i + 1)
+next-place t i rule r e f = f ∙ ap (ruleEnd t) e ∙ sym (past-suc i (ruleEnd t) (firstRule t)) ∙ ap (λ (n : ℕ). place t n) (omega arith)
 
-pub first-place : (t : List ℕ) (r : ℕ) → r ≡ firstRule t → r ≡ past 0 (ruleEnd t) (firstRule t)
+pub first-place : (t : List ℕ) (r : ℕ) → r ≡ firstRule t → r ≡ place t 0
 unfolding past
 first-place t r e = e
 
-pub tried-at : (t ws K : List ℕ) (h : ℕ) {b : List ℕ} {m : ℕ} {c : List ℕ} {q : ℕ} (i rule g : ℕ) → rule ≡ past i (ruleEnd t) (firstRule t) → g ≡ h + 1 → Filled K g (Tried t ws rule (blankItem g) (noneOf (rankOf t rule)) K) b m c q
-    → Filled K (h + 1) (Tried t ws (past i (ruleEnd t) (firstRule t)) (blankItem (h + 1)) (noneOf (rankOf t (past i (ruleEnd t) (firstRule t)))) K) b m c q
-tried-at t ws K h {b} {m} {c} {q} i rule g e f w = subst (λ (z : ℕ). Filled K z (Tried t ws (past i (ruleEnd t) (firstRule t)) (blankItem z) (noneOf (rankOf t (past i (ruleEnd t) (firstRule t)))) K) b m c q) f
+pub tried-at : (t ws K : List ℕ) (h : ℕ) {b : List ℕ} {m : ℕ} {c : List ℕ} {q : ℕ} (i rule g : ℕ) → rule ≡ place t i → g ≡ h + 1 → Filled K g (Tried t ws rule (blankItem g) (noneOf (rankOf t rule)) K) b m c q
+    → Filled K (h + 1) (Tried t ws (place t i) (blankItem (h + 1)) (noneOf (rankOf t (place t i))) K) b m c q
+tried-at t ws K h {b} {m} {c} {q} i rule g e f w = subst (λ (z : ℕ). Filled K z (Tried t ws (place t i) (blankItem z) (noneOf (rankOf t (place t i))) K) b m c q) f
     (subst (λ (r : ℕ). Filled K g (Tried t ws r (blankItem g) (noneOf (rankOf t r)) K) b m c q) e w)

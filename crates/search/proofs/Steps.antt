@@ -73,7 +73,7 @@ module _ {Mk : ℕ → ℕ → Type 0} {room h k : ℕ} {b : List ℕ} {r : ℕ}
   search-full (done z A) e c = absurd (omega arith)
   search-full (beyond z M) e c = full refl M
 
-  pub search-on : {b₀ f₀ f : List ℕ} → Begun Mk room h k b₀ f₀ → Advanced Mk room h k b r → (r ≡ 0 → ⊥) → r ≤ room - k → length b ≡ length b₀ → length f ≡ length f₀ → Begun Mk room (h + 1) (k + r) b f
-  search-on B (on z g X) e c p s = record { exact = X; small = B .small; count = g; fits = omega (arith, B .fits); fits-fresh = omega (arith, B .fits-fresh); levels = omega (arith, B .levels) }
-  search-on B (done z A) e c p s = absurd (e z)
-  search-on B (beyond z M) e c p s = absurd (omega (arith, B .count))
+  pub search-on : {b₀ f₀ f : List ℕ} → Begun Mk room h k b₀ f₀ → Advanced Mk room h k b r → (r ≡ 0 → ⊥) → r ≤ room - k → length b ≡ length b₀ → length f ≡ length f₀ → (g : ℕ) → g ≡ h + 1 → Begun Mk room g (k + r) b f
+  search-on B (on z l X) e c p s g u = record { exact = subst (Exact Mk _) (sym u) X; small = B .small; count = l; fits = omega (arith, B .fits); fits-fresh = omega (arith, B .fits-fresh); levels = omega (arith, B .levels) }
+  search-on B (done z A) e c p s g u = absurd (e z)
+  search-on B (beyond z M) e c p s g u = absurd (omega (arith, B .count))

@@ -3,3 +3,4 @@ pub mod Search
 pub mod Keys
 pub mod Spots
 pub mod Tried
+pub mod Likeness

@@ -1,20 +1,22 @@
 // The search: level by level all items that can be made, as packed items in chart order.
+mod shapes;
 mod spots;
 mod trying;
 
+use crate::shapes::has_shape;
 use crate::trying::combine;
 pub use spots::Spots;
 pub use spots::first;
 pub use spots::next;
 pub use spots::spots_of;
+use table::first_rule;
+use table::rule_count;
+use table::rule_end;
 pub use trying::none_of;
 pub use trying::spots_for;
 pub use trying::top;
 pub use trying::unpack;
 pub use trying::with;
-use table::first_rule;
-use table::rule_count;
-use table::rule_end;
 ghost use mathlib.Core.Path.{_≡_};
 ghost use Prim.Native.Nat.{ℕ, _+_, _-_, _*_, _<_, _≤_, _^_};
 ghost use lib.ListN.{length};
@@ -46,9 +48,11 @@ fn level(table: &[u8], words: &[u16], known: &[u64], fresh: &mut [u64], h: u64) 
     let mut m = 0;
     let mut i = 0;
     while i < count {
-        m = combine(table, words, rule, known, fresh, m, height);
-        if fresh.len() < m {
-            return m;
+        if !has_shape(table, rule, i) {
+            m = combine(table, words, rule, known, fresh, m, height);
+            if fresh.len() < m {
+                return m;
+            }
         }
         rule = rule_end(table, rule);
         i += 1;

@@ -257,17 +257,11 @@ fn try_code(
     ensures { λ m. ⌜ Filled (now (known .entry)) (goal .height) (Tried (now (table .entry)) (now (words .entry)) rule goal (put d k (coded c)) (now (known .entry))) (now (fresh .entry)) n (now (fresh .exit)) m ⌝ }
 {
     if meets(w, c) {
-        return extend(
-            table,
-            words,
-            rule,
-            goal,
-            with(d, k, unpack(c)),
-            left,
-            known,
-            fresh,
-            n,
-        );
+        let e = with(d, k, unpack(c));
+        if left == 0 {
+            return offer(table, words, rule, goal, e, known, fresh, n);
+        }
+        return extend(table, words, rule, goal, e, left, known, fresh, n);
     }
     n
 }

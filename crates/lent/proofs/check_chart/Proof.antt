@@ -19,7 +19,7 @@ abbrev μ-loop : tie.MeasureT-loop
 μ-loop table words chart count i₀ i = count - i
 
 returns : tie.Need-returns Inv-loop μ-loop
-returns c = many (inl (c .if1 .taken))
+returns c = many (inl (omega arith))
 
 returns-2 : tie.Need-returns-2 Inv-loop μ-loop
 returns-2 c = many (inr (c .if2 .taken))
@@ -31,7 +31,9 @@ is-sound-requires : tie.Need-is-sound-requires Inv-loop μ-loop
 is-sound-requires c κs = (c .before .before .before .before .before .before .before .pre, omega arith, omega arith)
 
 returns-3 : tie.Need-returns-3 Inv-loop μ-loop
-returns-3 c = bad (record { few = few-enough (c .before .before .before .before .before .before .before .before .before .args .chart .now) _ (c .before .before .before .before .before .if1 .left) (c .before .before .before .before .if2 .left); below = c .before .before .loop-test .taken; sound = c .before .before .before .loop .inv .1; bad = said-no (c .before .is-sound .ensures) (not-true _ (c .if3 .taken)) })
+returns-3 c =
+    let few = few-enough (c .before .before .before .before .before .before .before .before .before .args .chart .now) _ (c .before .before .before .before .before .if1 .left) (c .before .before .before .before .if2 .left) in
+    bad (record { few = few; below = c .before .before .loop-test .taken; sound = c .before .before .before .loop .inv .1; bad = said-no (c .before .is-sound .ensures) (not-true _ (c .if3 .taken)) })
 
 add-i : tie.Need-add-i Inv-loop μ-loop
 add-i c = search needs
@@ -40,10 +42,13 @@ loop-less : tie.Need-loop-less Inv-loop μ-loop
 loop-less c = omega arith
 
 loop-again : tie.Need-loop-again Inv-loop μ-loop
-loop-again c = (omega arith, sound-on (Sound (grammarOf (c .before .before .before .before .before .before .before .before .before .args .table .now)) (c .before .before .before .before .before .before .before .before .before .args .words .now) (c .before .before .before .before .before .before .before .before .before .args .chart .now) (c .before .before .before .before .before .before .before .before .before .args .count)) (c .before .before .before .loop .inv .1) (said-yes (c .before .is-sound .ensures) (not-false _ (c .if3 .left))))
+loop-again c = (omega arith, sound-on _ (c .before .before .before .loop .inv .1) (said-yes (c .before .is-sound .ensures) (not-false _ (c .if3 .left))))
 
 returns-4 : tie.Need-returns-4 Inv-loop μ-loop
-returns-4 c = let l = c .before .loop in good (record { few = few-enough (c .before .before .before .before .before .before .before .args .chart .now) _ (c .before .before .before .if1 .left) (c .before .before .if2 .left); sound = λ i h. l .inv .1 i (omega arith) })
+returns-4 c =
+    let few = few-enough (c .before .before .before .before .before .before .before .args .chart .now) _ (c .before .before .before .if1 .left) (c .before .before .if2 .left) in
+    let l = c .before .loop in
+    good (record { few = few; sound = λ i h. l .inv .1 i (omega arith) })
 
 pub check-chart-spec : {M : Type 1} → statement M
 check-chart-spec =

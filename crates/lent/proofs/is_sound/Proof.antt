@@ -12,7 +12,7 @@ ordered-requires : tie.Need-ordered-requires
 ordered-requires c κs = search needs
 
 returns : tie.Need-returns
-returns c = fails (λ s. said-no (c .before .ordered .ensures) (not-true _ (c .if1 .taken)) (order-of (c .before .before .before .before .before .args .table .now) (c .before .before .before .before .before .args .words .now) (c .before .before .before .before .before .args .chart .now) (c .before .before .before .before .before .args .count) (c .before .before .before .before .before .args .i) s))
+returns c = fails (λ s. said-no (c .before .ordered .ensures) (not-true _ (c .if1 .taken)) (order-of _ _ _ _ _ s))
 
 number-requires : tie.Need-number-requires
 number-requires c κs = search needs
@@ -27,15 +27,19 @@ enum-told : tie.Need-enum-told
 enum-told c = search needs
 
 returns-2 : tie.Need-returns-2
-returns-2 c = fails (unknown-no (c .before .before .before .before .before .before .before .before .before .args .table .now) (c .before .before .before .before .before .before .before .before .before .args .words .now) (c .before .before .before .before .before .before .before .before .before .args .chart .now) (c .before .before .before .before .before .before .before .before .before .args .count) (c .before .before .before .before .before .before .before .before .before .args .i) (c .before .before .before .before .before .before .before .before .before .pre .0) (finds-none (c .before .before .find-rule .ensures) (c .before .before .before .number .ensures) (c .enum-told .given .1)))
+returns-2 c =
+    let found = c .before .before .find-rule .ensures in
+    fails (unknown-no _ _ _ _ _ (c .before .before .before .before .before .before .before .before .before .pre .0) (finds-none found (c .before .before .before .number .ensures) (c .enum-told .given .1)))
 
 is-way-requires : tie.Need-is-way-requires
 is-way-requires c κs = (finds-rule (c .before .before .before .find-rule .ensures) (c .before .rule .given .1), omega arith)
 
 returns-3 : tie.Need-returns-3
 returns-3 c =
-    sound-by (c .before .before .before .before .before .before .before .before .before .before .before .args .table .now) (c .before .before .before .before .before .before .before .before .before .before .before .args .words .now) (c .before .before .before .before .before .before .before .before .before .before .before .args .chart .now) (c .before .before .before .before .before .before .before .before .before .before .before .args .count) (c .before .before .before .before .before .before .before .before .before .before .before .args .i) _ (finds-rule (c .before .before .before .before .find-rule .ensures) (c .before .before .rule .given .1)) (finds-named (c .before .before .before .before .find-rule .ensures) (c .before .before .before .before .before .number .ensures) (c .before .before .rule .given .1)) (c .before .before .before .before .before .before .before .before .before .before .before .pre .2)
-    (said-yes (c .before .before .before .before .before .before .before .ordered .ensures) (not-false _ (c .before .before .before .before .before .before .if1 .left))) (c .is-way .ensures)
+    let found = c .before .before .before .before .find-rule .ensures in
+    let at = c .before .before .rule .given .1 in
+    let after = said-yes (c .before .before .before .before .before .before .before .ordered .ensures) (not-false _ (c .before .before .before .before .before .before .if1 .left)) in
+    sound-by _ _ _ _ _ _ (finds-rule found at) (finds-named found (c .before .before .before .before .before .number .ensures) at) (c .before .before .before .before .before .before .before .before .before .before .before .pre .2) after (c .is-way .ensures)
 
 pub is-sound-spec : {M : Type 1} → statement M
 is-sound-spec =

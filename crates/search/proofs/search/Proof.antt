@@ -32,7 +32,7 @@ same-length : tie.Need-same-length Inv-loop μ-loop
 same-length c = (c .before .before .before .before .advance .kept .1 .1 .0) ∙ c .before .before .before .before .before .before .before .loop .inv .0
 
 returns : tie.Need-returns Inv-loop μ-loop
-returns c = search-done (c .before .before .before .before .advance .ensures) (c .if1 .taken) (c .before .before .before .before .before .before .before .loop .inv .2 .count)
+returns c = search-done (c .before .before .before .before .advance .ensures) (omega arith) (c .before .before .before .before .before .before .before .loop .inv .2 .count)
 
 sub-if2 : tie.Need-sub-if2 Inv-loop μ-loop
 sub-if2 c = omega (arith, c .before .before .before .before .before .before .before .loop .inv .2 .count)
@@ -44,7 +44,7 @@ same-length-2 : tie.Need-same-length-2 Inv-loop μ-loop
 same-length-2 c = (c .before .before .before .before .before .advance .kept .1 .1 .0) ∙ c .before .before .before .before .before .before .before .before .loop .inv .0
 
 returns-2 : tie.Need-returns-2 Inv-loop μ-loop
-returns-2 c = search-full (c .before .before .before .before .before .advance .ensures) (c .if2 .taken) (c .before .before .before .before .before .before .before .before .loop .inv .2 .count)
+returns-2 c = search-full (c .before .before .before .before .before .advance .ensures) (omega arith) (c .before .before .before .before .before .before .before .before .loop .inv .2 .count)
 
 add-k : tie.Need-add-k Inv-loop μ-loop
 add-k c = search needs
@@ -56,7 +56,7 @@ loop-less : tie.Need-loop-less Inv-loop μ-loop
 loop-less c = omega (arith, c .before .before .before .before .before .before .before .before .loop .inv .2 .count)
 
 loop-again : tie.Need-loop-again Inv-loop μ-loop
-loop-again c = ((c .before .before .before .before .before .advance .kept .1 .1 .0) ∙ c .before .before .before .before .before .before .before .before .loop .inv .0, (c .before .before .before .before .before .advance .kept .1 .1 .1 .1 .0) ∙ c .before .before .before .before .before .before .before .before .loop .inv .1, search-on (c .before .before .before .before .before .before .before .before .loop .inv .2) (c .before .before .before .before .before .advance .ensures) (c .before .if1 .left) (c .if2 .left) (c .before .before .before .before .before .advance .kept .1 .1 .0) (c .before .before .before .before .before .advance .kept .1 .1 .1 .1 .0))
+loop-again c = ((c .before .before .before .before .before .advance .kept .1 .1 .0) ∙ c .before .before .before .before .before .before .before .before .loop .inv .0, (c .before .before .before .before .before .advance .kept .1 .1 .1 .1 .0) ∙ c .before .before .before .before .before .before .before .before .loop .inv .1, search-on (c .before .before .before .before .before .before .before .before .loop .inv .2) (c .before .before .before .before .before .advance .ensures) (λ e. omega arith) (omega arith) (c .before .before .before .before .before .advance .kept .1 .1 .0) (c .before .before .before .before .before .advance .kept .1 .1 .1 .1 .0) _ (omega arith))
 
 pub search-spec : {M : Type 1} → statement M
 search-spec =

@@ -14,24 +14,27 @@ number-requires-2 c κs = search needs
 
 returns : tie.Need-returns
 returns c =
+    let a = c .before .before .before .before .args in
     let e = c .before .before .number .ensures in
     let f = c .before .number2 .ensures in
-    holds (before-less (c .before .before .before .before .args .chart .now) (c .before .before .before .before .args .i) (c .before .before .before .before .args .j) (omega arith))
+    holds (before-less (a .chart .now) (a .i) (a .j) (omega arith))
 
 returns-2 : tie.Need-returns-2
 returns-2 c =
+    let a = c .before .before .before .before .before .args in
     let e = c .before .before .before .number .ensures in
     let f = c .before .before .number2 .ensures in
-    fails (before-more (c .before .before .before .before .before .args .chart .now) (c .before .before .before .before .before .args .i) (c .before .before .before .before .before .args .j) (omega arith))
+    fails (before-more (a .chart .now) (a .i) (a .j) (omega arith))
 
 ranges-before-requires : tie.Need-ranges-before-requires
 ranges-before-requires c κs = search needs
 
 returns-3 : tie.Need-returns-3
 returns-3 c =
+    let a = c .before .before .before .before .before .before .args in
     let e = c .before .before .before .before .number .ensures in
     let f = c .before .before .before .number2 .ensures in
-    before-on (c .before .before .before .before .before .before .args .chart .now) (c .before .before .before .before .before .before .args .i) (c .before .before .before .before .before .before .args .j) (omega arith) (c .ranges-before .ensures)
+    before-on (a .chart .now) (a .i) (a .j) (omega arith) (c .ranges-before .ensures)
 
 pub comes-before-spec : {M : Type 1} → statement M
 comes-before-spec =

@@ -15,7 +15,7 @@ comes-before-requires : tie.Need-comes-before-requires
 comes-before-requires c κs = search needs
 
 returns-2 : tie.Need-returns-2
-returns-2 c = after-last (c .before .before .before .args .chart .now) (c .before .before .before .args .i) (c .before .if1 .left) (c .comes-before .ensures)
+returns-2 c = after-last _ _ (c .before .if1 .left) (c .comes-before .ensures)
 
 pub ordered-spec : {M : Type 1} → statement M
 ordered-spec = tie.close (tie.spec returns sub-last comes-before-requires returns-2)

@@ -24,17 +24,19 @@ number-requires-2 c κs = search needs
 
 returns : tie.Need-returns Inv-loop μ-loop
 returns c =
+    let a = c .before .before .before .before .before .before .args in
     let l = c .before .before .before .before .loop in
     let e = c .before .before .number .ensures in
     let f = c .before .number2 .ensures in
-    holds (l .inv .1 .1 (rest-less (c .before .before .before .before .before .before .args .chart .now) (c .before .before .before .before .before .before .args .i) (c .before .before .before .before .before .before .args .j) (c .before .before .before .before .loop .k) (c .before .before .before .loop-test .taken) (omega arith)))
+    holds (l .inv .1 .1 (rest-less (a .chart .now) (a .i) (a .j) (l .k) (omega arith) (omega arith)))
 
 returns-2 : tie.Need-returns-2 Inv-loop μ-loop
 returns-2 c =
+    let a = c .before .before .before .before .before .before .before .args in
     let l = c .before .before .before .before .before .loop in
     let e = c .before .before .before .number .ensures in
     let f = c .before .before .number2 .ensures in
-    fails (λ r. rest-more (c .before .before .before .before .before .before .before .args .chart .now) (c .before .before .before .before .before .before .before .args .i) (c .before .before .before .before .before .before .before .args .j) (c .before .before .before .before .before .loop .k) (c .before .before .before .before .loop-test .taken) (omega arith) (l .inv .1 .0 r))
+    fails (λ r. rest-more (a .chart .now) (a .i) (a .j) (l .k) (omega arith) (omega arith) (l .inv .1 .0 r))
 
 add-k : tie.Need-add-k Inv-loop μ-loop
 add-k c = search needs
@@ -44,14 +46,18 @@ loop-less c = search needs
 
 loop-again : tie.Need-loop-again Inv-loop μ-loop
 loop-again c =
+    let a = c .before .before .before .before .before .before .before .args in
     let l = c .before .before .before .before .before .loop in
     let e = c .before .before .before .number .ensures in
     let f = c .before .before .number2 .ensures in
-    let s = rest-on (c .before .before .before .before .before .before .before .args .chart .now) (c .before .before .before .before .before .before .before .args .i) (c .before .before .before .before .before .before .before .args .j) (c .before .before .before .before .before .loop .k) (c .before .before .before .before .loop-test .taken) (omega arith) in
+    let s = rest-on (a .chart .now) (a .i) (a .j) (l .k) (omega arith) (omega arith) in
     (omega arith, (λ r. s .0 (l .inv .1 .0 r), λ r. l .inv .1 .1 (s .1 r)))
 
 returns-3 : tie.Need-returns-3 Inv-loop μ-loop
-returns-3 c = fails (λ r. rest-none (c .before .before .before .args .chart .now) (c .before .before .before .args .i) (c .before .before .before .args .j) (c .before .loop .k) (omega arith) (c .before .loop .inv .1 .0 r))
+returns-3 c =
+    let a = c .before .before .before .args in
+    let l = c .before .loop in
+    fails (λ r. rest-none (a .chart .now) (a .i) (a .j) (l .k) (omega arith) (l .inv .1 .0 r))
 
 pub ranges-before-spec : {M : Type 1} → statement M
 ranges-before-spec =

@@ -1,5 +1,4 @@
 -- `lent::records::daughter` meets its contract: it is what is stated at the place that the record has.
-use native.Mathlib.Omega.{arith}
 use borrow.Author.Needs.{needs}
 use mathlib.Core.Path.{ap, _∙_}
 use Rattle.meaning.specs.TreeWriting.{statedAt}

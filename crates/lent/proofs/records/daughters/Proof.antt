@@ -14,7 +14,9 @@ daughter-requires-3 : tie.Need-daughter-requires-3
 daughter-requires-3 c κs = search needs
 
 returns : tie.Need-returns
-returns c = daughters-are (c .before .before .before .before .args .chart .now) (c .before .before .before .before .args .i) _ (c .before .before .daughter .ensures) (c .before .daughter2 .ensures) (c .daughter3 .ensures)
+returns c =
+    let a = c .before .before .before .before .args in
+    daughters-are (a .chart .now) (a .i) _ (c .before .before .daughter .ensures) (c .before .daughter2 .ensures) (c .daughter3 .ensures)
 
 pub daughters-spec : {M : Type 1} → statement M
 daughters-spec =

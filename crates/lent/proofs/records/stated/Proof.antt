@@ -33,8 +33,10 @@ number-requires-8 c κs = search needs
 returns : tie.Need-returns
 unfolding knownOf itemOf
 returns c =
-    stated-is (c .before .before .before .before .before .before .before .before .before .args .chart .now) (c .before .before .before .before .before .before .before .before .before .args .i) (c .before .before .before .before .before .before .before .number .ensures) (c .before .before .before .before .before .before .number2 .ensures)
-    (c .before .before .before .before .before .number3 .ensures) (c .before .before .before .before .number4 .ensures) (c .before .before .before .number5 .ensures) (c .before .before .number6 .ensures) (c .before .number7 .ensures) (c .number8 .ensures)
+    let a = c .before .before .before .before .before .before .before .before .before .args in
+    stated-is (a .chart .now) (a .i) (c .before .before .before .before .before .before .before .number .ensures) (c .before .before .before .before .before .before .number2 .ensures)
+    (c .before .before .before .before .before .number3 .ensures) (c .before .before .before .before .number4 .ensures) (c .before .before .before .number5 .ensures)
+    (c .before .before .number6 .ensures) (c .before .number7 .ensures) (c .number8 .ensures)
 
 pub stated-spec : {M : Type 1} → statement M
 stated-spec =

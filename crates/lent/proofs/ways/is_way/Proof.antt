@@ -11,7 +11,7 @@ use Rattle.lent.proofs.ways.is_way.Statement.{statement}
 use Rattle.lent.proofs.ways.is_way.Tie as tie
 
 add-fourth : tie.Need-add-fourth
-add-fourth c = omega (arith, head-in (c .before .before .before .args .table .now) (c .before .before .before .args .rule) (c .before .before .before .pre .0))
+add-fourth c = let b = c .before .before .before in omega (arith, head-in (b .args .table .now) (b .args .rule) (b .pre .0))
 
 byte-at-requires : tie.Need-byte-at-requires
 byte-at-requires c κs = search needs
@@ -23,7 +23,9 @@ are-placed-requires : tie.Need-are-placed-requires
 are-placed-requires c κs = search needs
 
 returns : tie.Need-returns
-returns c = fails (λ w. said-no (c .before .are-placed .ensures) (not-true _ (c .if1 .taken)) (placed-of (c .before .before .before .before .before .before .before .args .table .now) (c .before .before .before .before .before .before .before .args .words .now) (c .before .before .before .before .before .before .before .args .chart .now) (c .before .before .before .before .before .before .before .args .count) (c .before .before .before .before .before .before .before .args .rule) (c .before .before .before .before .before .before .before .args .i) _ (c .before .before .size .ensures ∙ c .before .before .before .byte-at .ensures .0) w))
+returns c =
+    let rank = c .before .before .size .ensures ∙ c .before .before .before .byte-at .ensures .0 in
+    fails (λ w. said-no (c .before .are-placed .ensures) (not-true _ (c .if1 .taken)) (placed-of _ _ _ _ _ _ _ rank w))
 
 stated-requires : tie.Need-stated-requires
 stated-requires c κs = search needs
@@ -35,7 +37,11 @@ fits-requires : tie.Need-fits-requires
 fits-requires c κs = search needs
 
 returns-2 : tie.Need-returns-2
-returns-2 c = fails (λ w. said-no (c .before .fits2 .ensures) (not-true _ (c .if2 .taken)) (given-of (c .before .before .before .before .before .before .before .before .before .before .before .args .table .now) (c .before .before .before .before .before .before .before .before .before .before .before .args .words .now) (c .before .before .before .before .before .before .before .before .before .before .before .args .chart .now) (c .before .before .before .before .before .before .before .before .before .before .before .args .count) (c .before .before .before .before .before .before .before .before .before .before .before .args .rule) (c .before .before .before .before .before .before .before .before .before .before .before .args .i) _ (c .before .before .before .before .before .before .size .ensures ∙ c .before .before .before .before .before .before .before .byte-at .ensures .0) _ _ (c .before .before .before .stated .ensures) (c .before .before .daughters .ensures) w))
+returns-2 c =
+    let rank = c .before .before .before .before .before .before .size .ensures ∙ c .before .before .before .before .before .before .before .byte-at .ensures .0 in
+    let x = c .before .before .before .stated .ensures in
+    let d = c .before .before .daughters .ensures in
+    fails (λ w. said-no (c .before .fits2 .ensures) (not-true _ (c .if2 .taken)) (given-of _ _ _ _ _ _ _ rank _ _ x d w))
 
 tallest-requires : tie.Need-tallest-requires
 tallest-requires c κs = search needs
@@ -48,11 +54,19 @@ add-if3 c = search needs
 
 returns-3 : tie.Need-returns-3
 returns-3 c =
-    holds (way-at (c .before .before .before .before .before .before .before .before .before .before .before .before .before .before .args .table .now) (c .before .before .before .before .before .before .before .before .before .before .before .before .before .before .args .words .now) (c .before .before .before .before .before .before .before .before .before .before .before .before .before .before .args .chart .now) (c .before .before .before .before .before .before .before .before .before .before .before .before .before .before .args .count) (c .before .before .before .before .before .before .before .before .before .before .before .before .before .before .args .rule) (c .before .before .before .before .before .before .before .before .before .before .before .before .before .before .args .i) _ (c .before .before .before .before .before .before .before .before .before .size .ensures ∙ c .before .before .before .before .before .before .before .before .before .before .byte-at .ensures .0) _ _ (c .before .before .before .before .before .before .stated .ensures) (c .before .before .before .before .before .daughters .ensures) _ _ (c .before .size2 .ensures) (c .before .before .tallest .ensures .0)
-    (said-yes (c .before .before .before .before .before .before .before .before .are-placed .ensures) (not-false _ (c .before .before .before .before .before .before .before .if1 .left))) (said-yes (c .before .before .before .before .fits2 .ensures) (not-false _ (c .before .before .before .if2 .left))) (c .if3 .taken))
+    let rank = c .before .before .before .before .before .before .before .before .before .size .ensures ∙ c .before .before .before .before .before .before .before .before .before .before .byte-at .ensures .0 in
+    let x = c .before .before .before .before .before .before .stated .ensures in
+    let d = c .before .before .before .before .before .daughters .ensures in
+    let placed = said-yes (c .before .before .before .before .before .before .before .before .are-placed .ensures) (not-false _ (c .before .before .before .before .before .before .before .if1 .left)) in
+    let given = said-yes (c .before .before .before .before .fits2 .ensures) (not-false _ (c .before .before .before .if2 .left)) in
+    holds (way-at _ _ _ _ _ _ _ rank _ _ x d _ _ (c .before .size2 .ensures) (c .before .before .tallest .ensures .0) placed given (c .if3 .taken))
 
 returns-4 : tie.Need-returns-4
-returns-4 c = fails (λ w. c .if3 .left (height-of (c .before .before .before .before .before .before .before .before .before .before .before .before .before .before .args .table .now) (c .before .before .before .before .before .before .before .before .before .before .before .before .before .before .args .words .now) (c .before .before .before .before .before .before .before .before .before .before .before .before .before .before .args .chart .now) (c .before .before .before .before .before .before .before .before .before .before .before .before .before .before .args .count) (c .before .before .before .before .before .before .before .before .before .before .before .before .before .before .args .rule) (c .before .before .before .before .before .before .before .before .before .before .before .before .before .before .args .i) _ (c .before .before .before .before .before .before .before .before .before .size .ensures ∙ c .before .before .before .before .before .before .before .before .before .before .byte-at .ensures .0) _ _ (c .before .before .before .before .before .before .stated .ensures) (c .before .before .before .before .before .daughters .ensures) _ _ (c .before .size2 .ensures) (c .before .before .tallest .ensures .0) w))
+returns-4 c =
+    let rank = c .before .before .before .before .before .before .before .before .before .size .ensures ∙ c .before .before .before .before .before .before .before .before .before .before .byte-at .ensures .0 in
+    let x = c .before .before .before .before .before .before .stated .ensures in
+    let d = c .before .before .before .before .before .daughters .ensures in
+    fails (λ w. c .if3 .left (height-of _ _ _ _ _ _ _ rank _ _ x d _ _ (c .before .size2 .ensures) (c .before .before .tallest .ensures .0) w))
 
 pub is-way-spec : {M : Type 1} → statement M
 is-way-spec =

@@ -5,7 +5,7 @@ use Rattle.phrase.proofs.Fit.{said-no}
 use Rattle.search.specs.Level.{Filled, Some}
 use Rattle.search.specs.Tried.{coded, put, Tried}
 use Rattle.search.proofs.Filling.{goes-on, nothing-yet}
-use Rattle.search.proofs.Choosing.{some-open, trial, trial-on, trial-off, walk-begins, walk-ends, walk-turns, walk-stops, none-left, turn-next, turn-done}
+use Rattle.search.proofs.Choosing.{some-open, all-chosen-at, trial, trial-on, trial-last, trial-off, walk-begins, walk-ends, walk-turns, walk-stops, none-left, turn-next, turn-done}
 use borrow.Author.Needs.{needs}
 use native.Mathlib.Omega.{arith}
 use Prim.Native.Nat.{ℕ, _<_}
@@ -439,6 +439,8 @@ try-code-meets-requires : (t : ℕ) → try-code-lts.Need-meets-requires (
   unpack-reads.Learnt,
   with-reads.Asked,
   with-reads.Learnt,
+  offer-reads.Asked,
+  offer-reads.Learnt,
   extend-below t,
   extend.Post,
 ) (try-code-at t) try-code.Post
@@ -451,6 +453,8 @@ try-code-unpack-requires : (t : ℕ) → try-code-lts.Need-unpack-requires (
   unpack-reads.Learnt,
   with-reads.Asked,
   with-reads.Learnt,
+  offer-reads.Asked,
+  offer-reads.Learnt,
   extend-below t,
   extend.Post,
 ) (try-code-at t) try-code.Post
@@ -463,22 +467,28 @@ try-code-with-requires : (t : ℕ) → try-code-lts.Need-with-requires (
   unpack-reads.Learnt,
   with-reads.Asked,
   with-reads.Learnt,
+  offer-reads.Asked,
+  offer-reads.Learnt,
   extend-below t,
   extend.Post,
 ) (try-code-at t) try-code.Post
 try-code-with-requires t c κs = search needs
 
-try-code-extend-requires : (t : ℕ) → try-code-lts.Need-extend-requires (
+try-code-offer-requires : (t : ℕ) → try-code-lts.Need-offer-requires (
   meets-reads.Asked,
   meets-reads.Learnt,
   unpack-reads.Asked,
   unpack-reads.Learnt,
   with-reads.Asked,
   with-reads.Learnt,
+  offer-reads.Asked,
+  offer-reads.Learnt,
   extend-below t,
   extend.Post,
 ) (try-code-at t) try-code.Post
-try-code-extend-requires t c κs = (omega (arith, c .before .before .before .before .before .before .before .before .before .pre .0), (c .before .before .before .before .before .before .before .before .before .pre .1 .0, rw (c .before .with .ensures, c .before .before .unpack .ensures) (trial-on (c .before .before .before .before .before .before .before .before .before .pre .1 .1))))
+try-code-offer-requires t c κs =
+    let T = trial-last (c .before .before .before .before .before .before .before .before .before .before .pre .1 .1) (c .before .if2 .taken) in
+    (c .before .before .before .before .before .before .before .before .before .before .pre .1 .0, (rw (c .before .before .with .ensures, c .before .before .before .unpack .ensures) T, rw (c .before .before .with .ensures, c .before .before .before .unpack .ensures) (all-chosen-at T)))
 
 try-code-same-length : (t : ℕ) → try-code-lts.Need-same-length (
   meets-reads.Asked,
@@ -487,6 +497,8 @@ try-code-same-length : (t : ℕ) → try-code-lts.Need-same-length (
   unpack-reads.Learnt,
   with-reads.Asked,
   with-reads.Learnt,
+  offer-reads.Asked,
+  offer-reads.Learnt,
   extend-below t,
   extend.Post,
 ) (try-code-at t) try-code.Post
@@ -499,10 +511,40 @@ try-code-returns : (t : ℕ) → try-code-lts.Need-returns (
   unpack-reads.Learnt,
   with-reads.Asked,
   with-reads.Learnt,
+  offer-reads.Asked,
+  offer-reads.Learnt,
   extend-below t,
   extend.Post,
 ) (try-code-at t) try-code.Post
-try-code-returns t c = rw (c .before .before .before .before .with .ensures, c .before .before .before .before .before .unpack .ensures) at (c .before .before .extend .ensures)
+try-code-returns t c = rw (c .before .before .before .before .before .with .ensures, c .before .before .before .before .before .before .unpack .ensures) at (c .before .before .offer .ensures)
+
+try-code-extend-requires : (t : ℕ) → try-code-lts.Need-extend-requires (
+  meets-reads.Asked,
+  meets-reads.Learnt,
+  unpack-reads.Asked,
+  unpack-reads.Learnt,
+  with-reads.Asked,
+  with-reads.Learnt,
+  offer-reads.Asked,
+  offer-reads.Learnt,
+  extend-below t,
+  extend.Post,
+) (try-code-at t) try-code.Post
+try-code-extend-requires t c κs = (omega (arith, c .before .before .before .before .before .before .before .before .before .before .pre .0), (c .before .before .before .before .before .before .before .before .before .before .pre .1 .0, rw (c .before .before .with .ensures, c .before .before .before .unpack .ensures) (trial-on (c .before .before .before .before .before .before .before .before .before .before .pre .1 .1))))
+
+try-code-same-length-2 : (t : ℕ) → try-code-lts.Need-same-length-2 (
+  meets-reads.Asked,
+  meets-reads.Learnt,
+  unpack-reads.Asked,
+  unpack-reads.Learnt,
+  with-reads.Asked,
+  with-reads.Learnt,
+  offer-reads.Asked,
+  offer-reads.Learnt,
+  extend-below t,
+  extend.Post,
+) (try-code-at t) try-code.Post
+try-code-same-length-2 t c = search needs
 
 try-code-returns-2 : (t : ℕ) → try-code-lts.Need-returns-2 (
   meets-reads.Asked,
@@ -511,10 +553,26 @@ try-code-returns-2 : (t : ℕ) → try-code-lts.Need-returns-2 (
   unpack-reads.Learnt,
   with-reads.Asked,
   with-reads.Learnt,
+  offer-reads.Asked,
+  offer-reads.Learnt,
   extend-below t,
   extend.Post,
 ) (try-code-at t) try-code.Post
-try-code-returns-2 t c = nothing-yet (c .before .before .before .before .before .before .pre .1 .0) (trial-off (c .before .before .before .before .before .before .pre .1 .1) (said-no (c .before .meets .ensures) (c .if1 .left)))
+try-code-returns-2 t c = rw (c .before .before .before .before .before .with .ensures, c .before .before .before .before .before .before .unpack .ensures) at (c .before .before .extend .ensures)
+
+try-code-returns-3 : (t : ℕ) → try-code-lts.Need-returns-3 (
+  meets-reads.Asked,
+  meets-reads.Learnt,
+  unpack-reads.Asked,
+  unpack-reads.Learnt,
+  with-reads.Asked,
+  with-reads.Learnt,
+  offer-reads.Asked,
+  offer-reads.Learnt,
+  extend-below t,
+  extend.Post,
+) (try-code-at t) try-code.Post
+try-code-returns-3 t c = nothing-yet (c .before .before .before .before .before .before .pre .1 .0) (trial-off (c .before .before .before .before .before .before .pre .1 .1) (said-no (c .before .meets .ensures) (c .if1 .left)))
 
 pub +extend+try-code-spec : {M : Type 1} → statement M
 +extend+try-code-spec = close μ-extend μ-try-code (λ t. extend-lts.spec (
@@ -565,6 +623,8 @@ pub +extend+try-code-spec : {M : Type 1} → statement M
       unpack-reads.Learnt,
       with-reads.Asked,
       with-reads.Learnt,
+      offer-reads.Asked,
+      offer-reads.Learnt,
       extend-below t,
       extend.Post,
     )
@@ -573,7 +633,10 @@ pub +extend+try-code-spec : {M : Type 1} → statement M
     (try-code-meets-requires t)
     (try-code-unpack-requires t)
     (try-code-with-requires t)
-    (try-code-extend-requires t)
+    (try-code-offer-requires t)
     (try-code-same-length t)
     (try-code-returns t)
+    (try-code-extend-requires t)
+    (try-code-same-length-2 t)
     (try-code-returns-2 t)
+    (try-code-returns-3 t)

@@ -1,0 +1,68 @@
+-- What is at hand before the items are looked for: what is allowed, the words that were read, the rules in their order.
+use mathlib.Core.Path.{_≡_, refl, ap, _∙_}
+use mathlib.Core.List.{List, _++_}
+use Prim.Native.Nat.{ℕ, zero, suc, _/_, _<_, _≤_, min}
+use native.Mathlib.Omega.{arith}
+use borrow.Author.Tests.{ltb-false}
+use lib.Dec.{ltb}
+use lib.ListN.{length, getD, take, drop, length-take}
+use lib.Seq.{getD-take, length-take-le, take-at}
+use Rattle.meaning.specs.Table.{Got, got, refused, _>>_, checkTable}
+use Rattle.meaning.specs.declared.Refusal.the-variants.{Long}
+use Rattle.meaning.specs.Decode.{wordsOf, checkWords, checkInput}
+use Rattle.meaning.specs.Reading.{allowed}
+use Rattle.meaning.proofs.Ends.{unrefused, fine-table}
+use Rattle.table.specs.Views.{filled}
+use Rattle.table.specs.Walk.{Ranked, Ordered}
+use Rattle.table.proofs.Sentence.{words-length, filled-exactly}
+use Rattle.reader.specs.Records.{Ruled}
+
+-- 'more than 2,000 is taken as 2,000', of an allowance that is not 0
+pub allowed-some : (a : ℕ) → (a ≡ 0 → ⊥) → allowed a ≡ min a 2000
+unfolding allowed
+allowed-some zero h = absurd (h refl)
+allowed-some (suc a) h = refl
+
+pub allowed-none : (a : ℕ) → a ≡ 0 → allowed a ≡ 2000
+unfolding allowed
+allowed-none a e = rw e
+
+-- the rules that were ordered are the first of the slice
+pub ruled : {t before after : List ℕ} {count : ℕ} → Ordered t before after count → count ≤ length after → Ruled t (take count after)
+ruled {t} {before} {after} {count} o h = record { ranked = rw size ranked; rules = size ∙ o .all }
+  where
+    size : length (take count after) ≡ count
+    size = length-take-le count after h
+
+    at : (j : ℕ) → j < count → getD (take count after) j 0 ≡ getD after j 0
+    at j l = getD-take count after j 0 l
+
+    ranked : Ranked t count (take count after)
+    ranked = record {
+      one = λ j l. let (i, k, e) = o .ranked .one j l in (i, k, at j l ∙ e);
+      each = λ i l. let (j, k, e) = o .ranked .each i l in (j, k, at j k ∙ e);
+      rising = λ j k l m. rw (at j (omega arith), at k m) (o .ranked .rising j k l m);
+    }
+
+pub rules-fit : {t before after : List ℕ} {count : ℕ} → checkTable t ≡ got tt → length before ≡ 256
+    → Ordered t before after count → count ≤ length after
+rules-fit {t} e n o = omega (arith, o .all, o .size, fine-table t e .count)
+
+-- a slice into whose front the words were read
+pub words-kept : (b lent out : List ℕ) → length b / 2 ≤ length lent → out ≡ filled (wordsOf b) (take (length b / 2) lent)
+    → take (length b / 2) (out ++ drop (length b / 2) lent) ≡ wordsOf b
+words-kept b lent out h e =
+    let q : out ≡ wordsOf b = e ∙ filled-exactly b (take (length b / 2) lent) (length-take-le (length b / 2) lent h) in
+    take-at out _ (length b / 2) (ap length q ∙ words-length b) ∙ q
+
+pub prefix-there : (n : ℕ) (l : List ℕ) {ws : List ℕ} → take n l ≡ ws → length ws ≡ n → n ≤ length l
+prefix-there n l e h = omega (arith, length-take n l, ap length e)
+
+-- what the checks have shown
+then : (x y : Got (Unit {0})) → x >> y ≡ got tt → (x ≡ got tt) × (y ≡ got tt)
+then (got tt) y e = (refl, e)
+then (refused r) y e = let z : _≡_ {A = ℕ} 0 1 = cc in absurd (omega arith)
+
+pub words-short : (t w : List ℕ) → checkInput t w ≡ got tt → length (wordsOf w) ≤ 64
+unfolding checkInput checkWords
+words-short t w e = omega (arith, words-length w, ltb-false 64 (length w / 2) (unrefused (ltb 64 (length w / 2)) Long (then _ _ (then (checkTable t) _ e .1) .0)))

@@ -2,12 +2,14 @@
 ghost use mathlib.Core.Path.{_≡_};
 ghost use mathlib.Core.List.{[], _∷_};
 ghost use Rattle.meaning.specs.Refusals as refusal;
+ghost use Rattle.reader.specs.Answers as found;
 ghost use Rattle.sentence.specs.Answers as said;
 ghost use Rattle.tree.specs.Answers as grown;
 use meaning::Refusal;
 use meaning::code_of;
 use meaning::place_of;
-use sentence::Answer;
+use reader::Answer as ReadAnswer;
+use sentence::Answer as SentenceAnswer;
 use tree::TreeAnswer;
 
 // Code, place and count.
@@ -66,6 +68,27 @@ fn written(count: usize) -> Numbers
     }
 }
 
+// The reader's three numbers.
+pub fn of_read(a: ReadAnswer) -> Numbers
+    ensures { λ r. ⌜ (r .code ≡ found.codeOf a) × (r .place ≡ found.placeOf a) × (r .count ≡ found.countOf a) ⌝ }
+{
+    match a {
+        ReadAnswer::Yes(place, count) => Numbers {
+            code: 0,
+            place: place,
+            count: count,
+        },
+        ReadAnswer::No(count) => Numbers {
+            code: 1,
+            place: 0,
+            count: count,
+        },
+        ReadAnswer::Refused(why) => of_refusal(why),
+        ReadAnswer::Full(room) => refused(16, room),
+        ReadAnswer::Deep => refused(22, 0),
+    }
+}
+
 // The tree writer's three numbers.
 pub fn of_tree(a: TreeAnswer) -> Numbers
     ensures { λ r. ⌜ (r .code ≡ grown.codeOf a) × (r .place ≡ grown.placeOf a) × (r .count ≡ grown.countOf a) ⌝ }
@@ -80,13 +103,13 @@ pub fn of_tree(a: TreeAnswer) -> Numbers
 }
 
 // The sentence writer's three numbers.
-pub fn of_sentence(a: Answer) -> Numbers
+pub fn of_sentence(a: SentenceAnswer) -> Numbers
     ensures { λ r. ⌜ (r .code ≡ said.codeOf a) × (r .place ≡ said.placeOf a) × (r .count ≡ said.countOf a) ⌝ }
 {
     match a {
-        Answer::Refused(why) => of_refusal(why),
-        Answer::TreeList(node) => refused(20, node),
-        Answer::TextRoom(needed) => refused(21, needed),
-        Answer::Words(count) => written(count),
+        SentenceAnswer::Refused(why) => of_refusal(why),
+        SentenceAnswer::TreeList(node) => refused(20, node),
+        SentenceAnswer::TextRoom(needed) => refused(21, needed),
+        SentenceAnswer::Words(count) => written(count),
     }
 }

@@ -1,6 +1,7 @@
 // What the programs share: reading a file, and printing numbers and the records of a chart.
 ghost use mathlib.Core.Path.{_≡_};
-ghost use lib.ListN.{length};
+ghost use Prim.Native.Nat.{_+_, _*_, _<_, _≤_};
+ghost use lib.ListN.{length, getD, replicate};
 ghost use Rattle.io.specs.Counts.{Counts};
 ghost use Rattle.programs.specs.Files.{Within};
 use libc::STDOUT_FILENO;
@@ -14,6 +15,7 @@ enum Got {
 // A chart slice of 2,000 records.
 pub fn empty_chart() -> [u16; 24000]
     ensures { λ r. ⌜ 24000 ≡ length r ⌝ }
+    ensures { λ r. ⌜ r ≡ replicate 24000 0 ⌝ }
 {
     [0; 24000]
 }
@@ -81,7 +83,9 @@ fn after(at: usize) -> u8 {
     b' '
 }
 
-fn wide(x: u16) -> u64 {
+fn wide(x: u16) -> u64
+    ensures { λ r. ⌜ r ≡ x ⌝ }
+{
     x as u64
 }
 
@@ -103,8 +107,10 @@ fn ended(next: usize, all: usize) -> u8 {
     b'\n'
 }
 
-// The height of the record at a place of the chart; 0 past its end.
-pub fn height_at(chart: &[u16], place: u64) -> u64 {
+// The height of the record at a place of the chart; 0 past its end, and past 2,000 records.
+pub fn height_at(chart: &[u16], place: u64) -> u64
+    ensures { λ r. ⌜ (place < 2000 → r ≡ getD (now (chart .entry)) (12 * place + 2) 0) × (2000 ≤ place → r ≡ 0) ⌝ }
+{
     if place < 2000 {
         let at = 12 * (place as usize) + 2;
         if at < chart.len() {

@@ -29,7 +29,7 @@ fn find_rule(table: &[u8], function: u16) -> usize
 }
 
 // Notes the place of each node's rule.
-pub fn note(table: &[u8], list: &[u16], nodes: &mut [usize])
+pub(crate) fn note(table: &[u8], list: &[u16], nodes: &mut [usize])
     requires { ⌜ FineTable (now table) ⌝ }
     requires { ⌜ length (now nodes) ≡ length (now list) ⌝ }
     ensures { λ _. ⌜ now (nodes .exit) ≡ map (placeFor (now (table .entry))) (now (list .entry)) ⌝ }
@@ -42,14 +42,14 @@ pub fn note(table: &[u8], list: &[u16], nodes: &mut [usize])
 }
 
 // The place of a node's rule, 0 past the last node.
-pub fn node_at(nodes: &[usize], at: usize) -> usize
+pub(crate) fn node_at(nodes: &[usize], at: usize) -> usize
     ensures { λ r. ⌜ r ≡ getD (now (nodes .entry)) at 0 ⌝ }
 {
     if at < nodes.len() { nodes[at] } else { 0 }
 }
 
 // Where daughter k of the node at a place stands, both from 0.
-pub fn daughter(table: &[u8], nodes: &[usize], at: usize, k: usize) -> usize
+pub(crate) fn daughter(table: &[u8], nodes: &[usize], at: usize, k: usize) -> usize
     requires { ⌜ Within (now table) (now nodes) ⌝ }
     requires { ⌜ (at ≤ 510) × (k ≤ 255) ⌝ }
     ensures { λ r. ⌜ r ≡ spec.daughter (now (table .entry)) (now (nodes .entry)) at k ⌝ }

@@ -14,6 +14,7 @@ use Rattle.meaning.specs.Chart.{Known, Entry, knowns, shown}
 use Rattle.meaning.specs.Decode.{several}
 use Rattle.meaning.specs.TreeWriting.{recordAt, statedAt, entryAt, lent}
 use Rattle.meaning.proofs.Order.{each-at}
+use Rattle.meaning.proofs.Decoded.{several-length}
 use Rattle.meaning.proofs.Lending.{lent-length, entry-at}
 use Rattle.meaning.proofs.Passing.{getD-mem, slice-at, record-is}
 use Rattle.lent.specs.Lent.{numberAt, numbersAt, Placed}

@@ -5,7 +5,7 @@ use std::process::ExitCode;
 
 use bench::cases::{cases, plain, Case, Said, ALLOWANCE};
 use bench::measure::median_of;
-use bench::report::{trap_line, Measured, COMPARISON_HEAD, TRAP_HEAD};
+use bench::report::{trap_is_good, trap_line, Measured, COMPARISON_HEAD, TRAP_HEAD};
 use board::{read, Reading};
 use tables::traps::traps;
 
@@ -18,9 +18,9 @@ fn main() -> ExitCode {
         "Machine: {}. Medians of {RUNS} runs, allowance {ALLOWANCE}.\n",
         bench::machine::this()
     );
-    let all_good = comparison();
+    let mut all_good = comparison();
     println!("\nTrap tables, the library alone, medians of {TRAP_RUNS} runs.\n");
-    trap_tables();
+    all_good &= trap_tables();
     if all_good {
         ExitCode::SUCCESS
     } else {
@@ -47,14 +47,18 @@ fn measured(case: &Case) -> Measured<'_> {
     Measured { case, library, plain }
 }
 
-fn trap_tables() {
+/// The library on the traps; says whether each is read in time.
+fn trap_tables() -> bool {
     println!("{TRAP_HEAD}");
+    let mut all_good = true;
     let mut chart = vec![0; ALLOWANCE * 12];
     for trap in traps() {
         let words = tables::words(&vec![9; trap.nines]);
         let (time, says) = median_of(TRAP_RUNS, || library(&trap.table, &words, &mut chart));
         println!("{}", trap_line(trap.name, trap.nines, says, time));
+        all_good &= trap_is_good(time);
     }
+    all_good
 }
 
 /// What the library says.

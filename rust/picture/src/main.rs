@@ -1,5 +1,6 @@
-//! Draws the tree of a sentence: `picture TABLE WORD.. > tree.svg`. A refusal or
-//! a no is a plain sentence instead, on the error output.
+//! Draws the tree of a sentence: `picture TABLE WORD.. > tree.svg`. The answer
+//! and the tree's function numbers are said on the error output; a refusal or a
+//! no is a plain sentence there, and no picture.
 
 use std::process::ExitCode;
 
@@ -30,10 +31,17 @@ fn picture(arguments: &[String]) -> Result<String, String> {
     let mut chart = vec![0; 24_000];
     let reading = read(&table, &words, 0, &mut chart);
     let Reading::Yes { goal, items } = reading else { return Err(reading.to_string()) };
-    let writing = write_tree(&table, &words, &chart, items, goal, &mut [0; 255]);
-    let TreeWriting::Written { .. } = writing else { return Err(writing.to_string()) };
+    eprintln!("{reading}");
+    let mut list = [0; 255];
+    let writing = write_tree(&table, &words, &chart, items, goal, &mut list);
+    let TreeWriting::Written { nodes } = writing else { return Err(writing.to_string()) };
+    eprintln!("The tree, each function before its daughters: {}", spaced(&list[..nodes]));
     draw(&table, &words, &chart, items, goal)
         .ok_or("The tree could not be drawn, though it could be written.".to_string())
+}
+
+fn spaced(numbers: &[u16]) -> String {
+    numbers.iter().map(u16::to_string).collect::<Vec<String>>().join(" ")
 }
 
 /// The words as they are lent, two bytes each.

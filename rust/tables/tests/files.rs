@@ -31,3 +31,21 @@ fn the_readme_speaks_of_each_file() {
         assert!(readme.contains(name), "{name}");
     }
 }
+
+/// The programs of the gate read copies of these files.
+#[test]
+fn the_programs_have_the_same_tables() {
+    let crates = folder().join("../crates");
+    let copies = [
+        ("listing/data/board.mcg", "copy.mcg"),
+        ("vectors/data/amb.mcg", "amb.mcg"),
+        ("vectors/data/copy.mcg", "copy.mcg"),
+        ("vectors/data/abc.mcg", "abc.mcg"),
+        ("vectors/data/figure-3-1.mcg", "figure-3-1.mcg"),
+        ("vectors/data/gxx.mcg", "gxx.mcg"),
+    ];
+    for (copy, name) in copies {
+        let bytes = std::fs::read(crates.join(copy)).expect("each program has its data");
+        assert_eq!(bytes, std::fs::read(folder().join(name)).expect("it is there"), "{copy}");
+    }
+}

@@ -1,3 +1,5 @@
+-- Laws of the walk: who is seated, where a daughter is looked for, the steps, what the calls have told; then that what works is a way to the
+-- item, and that the first is the chosen one.
 pub mod Leading
 pub mod Seeking
 pub mod Steps

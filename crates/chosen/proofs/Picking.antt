@@ -14,7 +14,7 @@ use Rattle.meaning.specs.Giving.{Gives}
 use Rattle.meaning.specs.Table.{number, rankOf}
 use Rattle.meaning.specs.Decode.{ruleAt, ruleEnd, firstRule, grammarOf}
 use Rattle.meaning.specs.Chart.{Known, Entry, Way, Chosen, Least, Made, GivenBy, things, tallest}
-use Rattle.meaning.proofs.Theory.{Lower, mem-map, map-mem}
+use Rattle.meaning.proofs.Theory.{Lower, mem-map, map-mem, mems-at}
 use Rattle.meaning.proofs.Order.{each-at, each-of}
 use Rattle.meaning.proofs.Charts.{deduction}
 use Rattle.meaning.proofs.Growth.{way-exists}
@@ -40,15 +40,6 @@ use Rattle.chosen.specs.declared.walk.Walked.the-variants.{At, Nowhere}
 use Rattle.chosen.specs.Walk.{Works, Passed, Looking, Walking, Finds, found, nowhere}
 use Rattle.chosen.specs.Chosen.{Choosing, Chooses}
 use Rattle.chosen.proofs.Ways.{three-of, three-many, lex-three, way-works, works-way, place₁, place₂, place₃, bounded}
-
--- known items stand at places
-places-of : {L ds : List (Known Item)} → Each (λ d. Mem d L) ds → (ps : List ℕ) × (map (getElem? L) ps ≡ map some ds)
-places-of each-none = ([], refl)
-places-of (each-more m ms) = let (p, e) = place-of m in let (ps, es) = places-of ms in (p ∷ ps, cc)
-  where
-    place-of : {d : Known Item} {L : List (Known Item)} → Mem d L → (p : ℕ) × (getElem? L p ≡ some d)
-    place-of (mathlib.Core.List.List·Memᴰ·head e) = (0, ap some (sym e))
-    place-of (mathlib.Core.List.List·Memᴰ·tail m) = let (p, e) = place-of m in (suc p, e)
 
 module _ {t ws order K : List ℕ} {code : ℕ} (C : Choosing t ws order K code) where
   -- every item that can be made is known, at most as high
@@ -166,7 +157,7 @@ module _ {t ws order K : List ℕ} {code : ℕ} (C : Choosing t ws order K code)
   not-nowhere e (found l w p) q = let z : _≡_ {A = ℕ} 0 1 = cc in omega arith
   not-nowhere {goal} e (nowhere n) q =
       let (f, ds, ms, g, h) = way in
-      let (ps, s) = places-of ms in
+      let (ps, s) = mems-at ms in
       let (j, l, u, v, w) = met f ps (record { daughters = ds; found = s; given = g; high = h }) in
       n j l (getD ps 0 0, (getD ps 1 0, (getD ps 2 0, subst (λ (x : CodedItem). Works t ws order K x j (getD ps 0 0) (getD ps 1 0) (getD ps 2 0)) (sym e) w)))
 

@@ -61,7 +61,7 @@ fn only(end: usize) -> Look
 }
 
 // The daughters with a known item as daughter k, where the rule has such a daughter.
-pub fn taken(d: Daughters, k: usize, code: u64) -> Daughters
+pub(crate) fn taken(d: Daughters, k: usize, code: u64) -> Daughters
     requires { ⌜ code < 2 ^ 60 ⌝ }
     ensures { λ r. ⌜ r ≡ spec.taken d k code ⌝ }
 {
@@ -72,7 +72,7 @@ pub fn taken(d: Daughters, k: usize, code: u64) -> Daughters
 }
 
 // Where daughter k is looked for: place 0 alone where the rule has no such daughter.
-pub fn look_for(
+pub(crate) fn look_for(
     table: &[u8],
     words: &[u16],
     rule: usize,
@@ -93,7 +93,7 @@ pub fn look_for(
 }
 
 // Where the first daughter is looked for: nowhere if the rule is of another category than the goal.
-pub fn begin(
+pub(crate) fn begin(
     table: &[u8],
     words: &[u16],
     rule: usize,
@@ -112,7 +112,7 @@ pub fn begin(
 }
 
 // Where daughter k is looked for: nowhere if the daughter before it, of this code, is not as asked.
-pub fn onward(
+pub(crate) fn onward(
     table: &[u8],
     words: &[u16],
     rule: usize,
@@ -134,7 +134,7 @@ pub fn onward(
 }
 
 // Does the rule give the goal, with the right heights, from these daughters with the last of this code?
-pub fn gives(
+pub(crate) fn gives(
     table: &[u8],
     words: &[u16],
     rule: usize,

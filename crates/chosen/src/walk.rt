@@ -21,7 +21,7 @@ pub enum Walked {
     Nowhere,
 }
 
-pub fn walk(table: &[u8], words: &[u16], order: &[u16], known: &[u64], goal: Item) -> Walked
+pub(crate) fn walk(table: &[u8], words: &[u16], order: &[u16], known: &[u64], goal: Item) -> Walked
     requires { ⌜ Walking (now table) (now words) (now order) (now known) goal ⌝ }
     ensures { λ r. ⌜ Finds (now (table .entry)) (now (words .entry)) (now (order .entry)) (now (known .entry)) goal r ⌝ }
 {

@@ -18,7 +18,7 @@ use Rattle.meaning.proofs.Order.{each-at, each-of, each-map, each-both, Nodup}
 use Rattle.meaning.proofs.Theory.{Deduction, bounded, map-mem}
 use Rattle.meaning.proofs.Charts.{deduction}
 use Rattle.meaning.proofs.Determined.{valid-input, room-most}
-use Rattle.claims.proofs.Codes.{refusal-code}
+use Rattle.meaning.proofs.Codes.{refusal-code}
 
 -- one item of each height from n down to 1
 record Stairs {A : Type 0} (Made : A → ℕ → Type 0) (n : ℕ) (l : List (Known A)) : Type 0 where

@@ -1,4 +1,4 @@
-pub mod Codes
+-- The theorems across calls.
 -- Deep is never given
 pub mod Heights
 -- two tables that are checked alike, and what is then allowed for both

@@ -22,20 +22,10 @@ use Rattle.meaning.specs.TreeWriting as tree
 use Rattle.meaning.proofs.Order.{each-at, each-of, each-map}
 use Rattle.meaning.proofs.Decoded.{several-mem}
 use Rattle.meaning.proofs.Passing.{getD-mem, known-is, shows, passes}
+use Rattle.meaning.proofs.Lending.{entry-at, entry-of}
 use Rattle.meaning.proofs.Writer.{written}
 use Rattle.meaning.proofs.Determined.{valid-input, room-most}
-use Rattle.claims.proofs.Codes.{refusal-code}
-
-past-suc : (i at : ℕ) → past i suc at ≡ at + i
-unfolding past
-past-suc zero at = omega arith
-past-suc (suc i) at = past-suc i (suc at) ∙ omega arith
-
-several-there : {A : Type 0} (f : ℕ → A) (n at i : ℕ) → i < n → getElem? (several n f suc at) i ≡ some (f (at + i))
-unfolding several
-several-there f zero at i h = absurd (omega arith)
-several-there f (suc n) at zero h = let q : at ≡ at + 0 = omega arith in ap (λ (p : ℕ). some (f p)) q
-several-there f (suc n) at (suc i) h = let q : suc at + i ≡ at + suc i = omega arith in several-there f n (suc at) i (omega arith) ∙ ap (λ (p : ℕ). some (f p)) q
+use Rattle.meaning.proofs.Codes.{refusal-code}
 
 -- a tree that makes a known item, of as many levels as its height, and its list
 pub record Grown (G : Grammar) (ws : List ℕ) (k : Known Item) (ns : List ℕ) : Type 0 where
@@ -48,16 +38,14 @@ module _ {G : Grammar} {ws c : List ℕ} {count : ℕ} (sound : Passes G ws c co
   ways : Each (λ e. Way (GivenBy G ws) (knowns (lent G c count)) (e .known) (e .function) (e .places)) (lent G c count)
   unfolding lent entryAt
   ways = each-of (lent G c count) (λ e m.
-      let (i, h, q) = several-mem (entryAt G c) suc count 0 m in
-      let r : e ≡ entryAt G c i = q ∙ ap (entryAt G c) (past-suc i 0 ∙ omega arith) in
-      rw r (sound .sound i h .way))
+      let (i, h, q) = entry-of G c count m in
+      rw q (sound .sound i h .way))
 
   -- the nodes that are written of a record are those of a tree that makes its item
   passed-tree : (i : ℕ) → i < count → Grown G ws (statedAt c i) (nodes G c count i)
   unfolding nodes lent entryAt
   passed-tree i h =
-      let a : getElem? (lent G c count) i ≡ some (entryAt G c i) = several-there (entryAt G c) count 0 i h ∙ ap (λ (p : ℕ). some (entryAt G c p)) (omega arith) in
-      let (t, m, l, f) = written G ws (lent G c count) ways (statedAt c i .height) i (entryAt G c i) a (omega arith) in
+      let (t, m, l, f) = written G ws (lent G c count) ways (statedAt c i .height) i (entryAt G c i) (entry-at G c count i h) (omega arith) in
       record { tree = t; makes = m; high = l; list = f }
 
   -- 'what passes holds only true items'

@@ -24,16 +24,12 @@ use Rattle.meaning.specs.SentenceWriting as sentence
 use Rattle.meaning.proofs.Decoded.{several-length}
 use Rattle.meaning.proofs.Passing.{known-is, shows}
 use Rattle.meaning.proofs.Charts.{spells-sentence}
-use Rattle.meaning.proofs.Determined.{Same, same-sentence, table-accepted, valid-input}
+use Rattle.meaning.proofs.Determined.{Same, same-sentence, table-accepted, valid-input, never}
 use Rattle.meaning.proofs.Yes.{Spelt, spelt-yes}
-use Rattle.claims.proofs.Codes.{refusal-code}
+use Rattle.meaning.proofs.Codes.{refusal-code}
 use Rattle.claims.proofs.Heights.{never-deep}
 use Rattle.claims.proofs.Passed.{reader-passes, written-tree}
 use Rattle.claims.proofs.Spoken.{spoken-words, words-accepted, input-accepted}
-
--- what is accepted is not refused
-never : {A : Type 0} {g : Got (Unit {0})} {r : Refusal} → g ≡ got tt → g ≡ refused r → A
-never e f = let z : _≡_ {A = ℕ} 0 1 = cc in absurd (omega arith)
 
 item-there : (C : List (Entry Item)) (p : ℕ) {x : Item} → getElem? (items C) p ≡ some x → (p < length C) × (getD C p blank .known .item ≡ x)
 item-there [] p q = let z : _≡_ {A = ℕ} 0 1 = cc in absurd (omega arith)

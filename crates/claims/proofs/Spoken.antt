@@ -17,6 +17,7 @@ use Rattle.meaning.specs.Grammar.{Symbol, word, part, Rule, Tree, node, Trees, 
 use Rattle.meaning.proofs.Order.{each-of}
 use Rattle.meaning.proofs.Ends.{fine-table}
 use Rattle.meaning.proofs.Decoded.{several-length, several-at, several-past, several-mem}
+use Rattle.meaning.proofs.Words.{words-length, word-at}
 
 -- a symbol that is a word is not 0
 abbrev Spoken : Symbol → Type 0
@@ -81,11 +82,6 @@ module _ (t : List ℕ) (e : checkTable t ≡ got tt) where
     spoken-all (and T ts) (of-more o os) (suc k) c = spoken-all ts os k c
 
 -- words of which none is 0, in at most 64 pairs of bytes, are accepted
-past-two : (n at : ℕ) → past n (λ p. p + 2) at ≡ at + 2 * n
-unfolding past
-past-two zero at = omega arith
-past-two (suc n) at = past-two n (at + 2) ∙ omega arith
-
 at-nonzero : {ws : List ℕ} → NonZero ws → (i : ℕ) → i < length ws → 1 ≤ getD ws i 0
 at-nonzero each-none i h = absurd (omega arith)
 at-nonzero (each-more p ps) zero h = p
@@ -95,9 +91,7 @@ module _ (b : List ℕ) (few : length b / 2 ≤ 64) (even : length b % 2 ≡ 0) 
   each-there : (i : ℕ) → i < length b / 2 → wordThere b i ≡ got (i + 1)
   unfolding wordThere wordsOf
   each-there i h =
-      let l : i < length (wordsOf b) = omega (arith, several-length (number b) (λ p. p + 2) (length b / 2) 0) in
-      let q : getD (wordsOf b) i 0 ≡ number b (2 * i) = several-at (number b) (λ p. p + 2) (length b / 2) 0 i 0 h ∙ ap (number b) (past-two i 0 ∙ omega arith) in
-      let n : number b (2 * i) ≡ 0 → ⊥ = (λ z. omega (arith, at-nonzero fine i l)) in
+      let n : number b (2 * i) ≡ 0 → ⊥ = (λ z. omega (arith, at-nonzero fine i (omega (arith, words-length b)), word-at b i h)) in
       rw (ne-eqb (number b (2 * i)) 0 n)
 
   all-there : (n i : ℕ) → i + n ≤ length b / 2 → times n (wordThere b) i ≡ got (i + n)

@@ -12,6 +12,7 @@ use Rattle.meaning.specs.Decode.{several, symbolAt}
 use Rattle.meaning.proofs.Joining.{Join, left, right, next, none-join, join-none, joined→join}
 use Rattle.meaning.proofs.Spans.{word-at}
 use Rattle.phrase.proofs.Joins.{Proper, Fold, stop, onto}
+use Rattle.phrase.proofs.Runs.{stands-proper}
 use Rattle.phrase.specs.declared.items.Daughters.{Daughters}
 use Rattle.hint.specs.declared.steps.State.{State}
 use Rattle.hint.specs.Hint.{As}
@@ -56,13 +57,6 @@ pub record Walk (near : Range → ℕ) (J : Range → Range → Range → Type 0
   pub range : Range
   pub chain : Chain (λ m p. Stands ws parts (symbol m) p) J n range
   pub fits : Some range → Agrees s (near range)
-
--- where a symbol stands is a range
-pub stands-proper : (ws : List ℕ) (e : ℕ → ℕ → Range) (x : Symbol) (p : Range) → Stands ws e x p → Proper p
-unfolding Stands
-stands-proper ws e (word w) p h = let (i, t, g) = word-at h in inr (omega arith)
-stands-proper ws e (part k c) p (h, inl i) = inl i
-stands-proper ws e (part k c) p (h, inr i) = inr (i .0)
 
 module _ {near far : Range → ℕ} {J : Range → Range → Range → Type 0} (side : Side near far J) where
   -- what comes first gives the near end

@@ -13,7 +13,7 @@ use Rattle.hint.specs.declared.Want.{Want}
 use Rattle.hint.specs.declared.Wants.{Wants}
 use Rattle.hint.specs.declared.Reach.{Reach}
 use Rattle.hint.specs.Hint.{As, PartMeets, Meets, Reaches}
-use Rattle.hint.specs.State.{PartsMeet}
+use Rattle.hint.specs.State.{PartsMeet, StartAsked}
 
 -- the tests, one after another
 pub as-not : {asked n : ℕ} → (asked ≡ 65 → ⊥) → (asked ≡ n → ⊥) → As asked n → ⊥
@@ -40,7 +40,7 @@ start-digit : (c : ℕ) → unpacked (keyOf c) .one .from < 128
 unfolding unpacked
 start-digit c = omega arith
 
--- the codes of a category, those of a start of its first part, and those where that is empty
+-- the codes of a category, those of a start of its first part, those of an end of it too, and those where that is empty
 module _ (c A : ℕ) (kind : unpacked (keyOf c) .category ≡ A) where
   pub of-category : Within (A * 9007199254740992) (A * 9007199254740992 + 9007199254740992) c
   unfolding unpacked
@@ -51,6 +51,11 @@ module _ (c A : ℕ) (kind : unpacked (keyOf c) .category ≡ A) where
   unfolding unpacked
   of-start s e = record { above = omega arith; below = omega arith }
 
+  pub of-end : (s e : ℕ) → unpacked (keyOf c) .one .from ≡ s → unpacked (keyOf c) .one .to ≡ e
+      → Within (A * 9007199254740992 + s * 70368744177664 + e * 549755813888) (A * 9007199254740992 + s * 70368744177664 + e * 549755813888 + 549755813888) c
+  unfolding unpacked
+  of-end s e f g = record { above = omega arith; below = omega arith }
+
   pub of-empty : unpacked (keyOf c) .one ≡ none → Within (A * 9007199254740992) (A * 9007199254740992 + 549755813888) c
   unfolding unpacked
   of-empty e =
@@ -58,7 +63,7 @@ module _ (c A : ℕ) (kind : unpacked (keyOf c) .category ≡ A) where
       let t = ap (λ (r : Range). r .to) e in
       record { above = omega arith; below = omega arith }
 
--- the parts of the codes that are reached, by what is asked of the first part's start
+-- the parts of the codes that are reached, by what is asked of the first part
 module _ {A first : ℕ} (w : Wants) (is : first ≡ A) where
   abbrev Inside : Reach → Type 0
   Inside r = (c : ℕ) → knownOf c .item .category ≡ A → Meets w (knownOf c) → Within (r .low) (r .high) c ⊎ Within (r .low2) (r .high2) c
@@ -85,14 +90,33 @@ module _ {A first : ℕ} (w : Wants) (is : first ≡ A) where
       go c k (inl e) = let b = of-empty c A k e in record { above = omega arith; below = omega arith }
       go c k (inr e) = let b = of-start c A k 0 (omega arith) in record { above = omega arith; below = omega arith }
 
-  pub reach-start : (w .one .from ≡ 65 → ⊥) → (w .one .from ≡ 0 → ⊥)
+  pub reach-start : StartAsked w
       → Reaches A w (record { low = base; high = base + 549755813888; low2 = base + w .one .from * 70368744177664; high2 = base + w .one .from * 70368744177664 + 70368744177664 })
-  reach-start f z = record { order = omega arith; inside = λ c k m. go c k (asked-start c m f) }
+  reach-start a = record { order = omega (arith, a .low); inside = λ c k m. go c k (asked-start c m (a .some)) }
     where
       go : (c : ℕ) → knownOf c .item .category ≡ A → (unpacked (keyOf c) .one ≡ none) ⊎ (unpacked (keyOf c) .one .from ≡ w .one .from)
           → Within base (base + 549755813888) c ⊎ Within (base + w .one .from * 70368744177664) (base + w .one .from * 70368744177664 + 70368744177664) c
       go c k (inl e) = inl (rw is (of-empty c A k e))
       go c k (inr e) = inr (rw is (of-start c A k (w .one .from) e))
+
+  -- and of its end
+  asked-end : (c : ℕ) → Meets w (knownOf c) → (w .one .to ≡ 65 → ⊥) → (unpacked (keyOf c) .one ≡ none) ⊎ (unpacked (keyOf c) .one .to ≡ w .one .to)
+  asked-end c m f = go (m .one)
+    where
+      go : PartMeets (w .one) (unpacked (keyOf c) .one) → (unpacked (keyOf c) .one ≡ none) ⊎ (unpacked (keyOf c) .one .to ≡ w .one .to)
+      go (inl e) = inl e
+      go (inr (s, inl e)) = absurd (f e)
+      go (inr (s, inr e)) = inr (sym e)
+
+  pub reach-end : StartAsked w → w .one .to < 65
+      → Reaches A w (record { low = base; high = base + 549755813888; low2 = base + w .one .from * 70368744177664 + w .one .to * 549755813888; high2 = base + w .one .from * 70368744177664 + w .one .to * 549755813888 + 549755813888 })
+  reach-end a l = record { order = omega (arith, a .low); inside = λ c k m. go c k (asked-start c m (a .some)) (asked-end c m (λ e. omega arith)) }
+    where
+      go : (c : ℕ) → knownOf c .item .category ≡ A → (unpacked (keyOf c) .one ≡ none) ⊎ (unpacked (keyOf c) .one .from ≡ w .one .from) → (unpacked (keyOf c) .one ≡ none) ⊎ (unpacked (keyOf c) .one .to ≡ w .one .to)
+          → Within base (base + 549755813888) c ⊎ Within (base + w .one .from * 70368744177664 + w .one .to * 549755813888) (base + w .one .from * 70368744177664 + w .one .to * 549755813888 + 549755813888) c
+      go c k (inl e) v = inl (rw is (of-empty c A k e))
+      go c k (inr e) (inl v) = inl (rw is (of-empty c A k v))
+      go c k (inr e) (inr v) = inr (rw is (of-end c A k (w .one .from) (w .one .to) e v))
 
   pub reach-empty : (w .one .from ≡ 65 → ⊥) → 128 ≤ w .one .from
       → Reaches A w (record { low = base; high = base + 549755813888; low2 = base + 549755813888; high2 = base + 549755813888 })

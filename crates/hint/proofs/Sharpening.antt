@@ -18,7 +18,8 @@ use Rattle.hint.specs.declared.Wants.{Wants}
 use Rattle.hint.specs.declared.steps.State.{State}
 use Rattle.hint.specs.Hint.{As, PartMeets}
 use Rattle.hint.specs.State.{Agrees, StartsAs, EndsAs, Moves, Knows, Sharper, PartStarts, PartEnds, Ways}
-use Rattle.hint.proofs.Chains.{Side, nil, Walk, stands-proper, walks, asks, run-chain, fold-chain}
+use Rattle.phrase.proofs.Runs.{stands-proper}
+use Rattle.hint.proofs.Chains.{Side, nil, Walk, walks, asks, run-chain, fold-chain}
 
 pub sharper-none : {P : (ℕ → Range) → Type 0} {w : Wants} → Sharper P w w
 sharper-none = record { low = refl; high = refl; parts = λ f p m. m }

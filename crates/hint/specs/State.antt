@@ -1,6 +1,6 @@
 -- What is known of a place between two symbols of a row, as the code walks the row from its left end, or back from its right end: how the
 -- state moves over a symbol, and what may be asked of a part there. That this leaves out only what gives nothing is proved in proofs/.
-use Prim.Native.Nat.{ℕ, _<_}
+use Prim.Native.Nat.{ℕ, _<_, _≤_}
 use mathlib.Core.Path.{_≡_}
 use mathlib.Core.Logic.{_⊎_}
 use mathlib.Core.List.{List}
@@ -55,6 +55,12 @@ pub record PartsMeet (w : Wants) (f : ℕ → Range) : Type 0 where
   pub one : PartMeets (w .one) (f 0)
   pub two : PartMeets (w .two) (f 1)
   pub three : PartMeets (w .three) (f 2)
+
+-- the first part is asked for at a start, and not at 0, where what is empty counts as starting
+pub record StartAsked (w : Wants) : Type 0 where
+  pub low : 1 ≤ w .one .from
+  pub high : w .one .from < 128
+  pub some : w .one .from ≡ 65 → ⊥
 
 -- w′ asks more than w, but of parts f that have P nothing that they do not meet
 pub record Sharper (P : (ℕ → Range) → Type 0) (w w′ : Wants) : Type 0 where

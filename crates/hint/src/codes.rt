@@ -5,7 +5,7 @@ ghost use Rattle.meaning.specs.Range.{Range, none, at};
 ghost use Rattle.phrase.specs.Phrase.{Decides};
 ghost use Rattle.store.specs.Code.{unpacked, knownOf};
 ghost use Rattle.hint.specs.Hint.{As, PartMeets, Meets, Reaches};
-ghost use Rattle.hint.specs.State.{PartsMeet};
+ghost use Rattle.hint.specs.State.{PartsMeet, StartAsked};
 use crate::ANYWHERE;
 use crate::NOWHERE;
 use crate::Reach;
@@ -97,7 +97,35 @@ pub fn meets(w: Wants, code: u64) -> bool
     parts_meet(w, code / 2048)
 }
 
-// Where the codes of a category can be that are as asked: those whose first part is empty, and those where it starts as asked.
+// Where the codes of a category can be that are as asked, where their first part is asked for at a start.
+fn reach_at(category: u16, w: Wants) -> Reach
+    requires { ⌜ (category < 128) × StartAsked w ⌝ }
+    ensures { λ r. ⌜ Reaches category w r ⌝ }
+{
+    let low = wide(category) * OF_CATEGORY;
+    let high = low + OF_END;
+    let start = low + w.one.from * OF_START;
+    let to = w.one.to;
+    if to < ANYWHERE {
+        let low2 = start + to * OF_END;
+        let high2 = low2 + OF_END;
+        return Reach {
+            low: low,
+            high: high,
+            low2: low2,
+            high2: high2,
+        };
+    }
+    let end = start + OF_START;
+    Reach {
+        low: low,
+        high: high,
+        low2: start,
+        high2: end,
+    }
+}
+
+// Where the codes of a category can be that are as asked: those whose first part is empty, and those where it stands as asked.
 pub fn reach_of(category: u16, w: Wants) -> Reach
     requires { ⌜ category < 128 ⌝ }
     ensures { λ r. ⌜ Reaches category w r ⌝ }
@@ -122,17 +150,10 @@ pub fn reach_of(category: u16, w: Wants) -> Reach
             high2: end,
         };
     }
-    let empty = first + OF_END;
     if from < NOWHERE {
-        let start = first + from * OF_START;
-        let end = start + OF_START;
-        return Reach {
-            low: first,
-            high: empty,
-            low2: start,
-            high2: end,
-        };
+        return reach_at(category, w);
     }
+    let empty = first + OF_END;
     Reach {
         low: first,
         high: empty,

@@ -16,19 +16,13 @@ use phrase::held;
 use table::byte_at;
 use table::number_at;
 use table::size;
+use table::wide;
 
 // Any place; one place; or no place, since the row cannot run so.
 pub(crate) enum State {
     Free,
     At(usize),
     Never,
-}
-
-// A place as it is asked for.
-fn wide(x: usize) -> u64
-    ensures { λ r. ⌜ r ≡ x ⌝ }
-{
-    x as u64
 }
 
 // What is asked of a part that is not empty and starts, or ends, where this is known.

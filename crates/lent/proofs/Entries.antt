@@ -15,6 +15,7 @@ use Rattle.meaning.specs.Decode.{several}
 use Rattle.meaning.specs.TreeWriting.{recordAt, statedAt, entryAt, lent}
 use Rattle.meaning.proofs.Order.{each-at}
 use Rattle.meaning.proofs.Decoded.{several-length}
+use Rattle.meaning.proofs.Lending.{lent-length, entry-at}
 use Rattle.meaning.proofs.Passing.{getD-mem, slice-at, record-is}
 use Rattle.lent.specs.Lent.{numberAt, numbersAt, Placed}
 
@@ -24,29 +25,19 @@ inside [] p e = let z : _≡_ {A = ℕ} 0 1 = cc in absurd (omega arith)
 inside (b ∷ l) zero e = omega arith
 inside (b ∷ l) (suc p) e = let h = inside l p e in omega arith
 
-at-several : {A : Type 0} (f : ℕ → A) (n at p : ℕ) → p < n → getElem? (several n f suc at) p ≡ some (f (at + p))
-unfolding several
-at-several f zero at p h = absurd (omega arith)
-at-several f (suc n) at zero h = let e : at ≡ at + 0 = omega arith in ap (λ (q : ℕ). some (f q)) e
-at-several f (suc n) at (suc p) h = let e : suc at + p ≡ at + suc p = omega arith in at-several f n (suc at) p (omega arith) ∙ ap (λ (q : ℕ). some (f q)) e
-
 at-image : {A B : Type 0} (f : A → B) (l : List A) (p : ℕ) {a : A} → getElem? l p ≡ some a → getElem? (map f l) p ≡ some (f a)
 at-image f [] p e = let z : _≡_ {A = ℕ} 0 1 = cc in absurd (omega arith)
 at-image f (b ∷ l) zero e = cc
 at-image f (b ∷ l) (suc p) e = at-image f l p e
 
 module _ (G : Grammar) (c : List ℕ) (count : ℕ) where
-  pub entry-at : (p : ℕ) → p < count → getElem? (lent G c count) p ≡ some (entryAt G c p)
-  unfolding lent
-  entry-at p h = let e : 0 + p ≡ p = omega arith in at-several (entryAt G c) count 0 p h ∙ ap (λ (q : ℕ). some (entryAt G c q)) e
-
   known-at : (p : ℕ) → p < count → getElem? (knowns (lent G c count)) p ≡ some (statedAt c p)
   unfolding entryAt
-  known-at p h = at-image (λ (e : Entry Item). e .known) (lent G c count) p (entry-at p h)
+  known-at p h = at-image (λ (e : Entry Item). e .known) (lent G c count) p (entry-at G c count p h)
 
   below-count : (p : ℕ) {d : Known Item} → getElem? (knowns (lent G c count)) p ≡ some d → p < count
   unfolding lent
-  below-count p e = omega (arith, inside (knowns (lent G c count)) p e, length-map (lent G c count) (λ (x : Entry Item). x .known), several-length (entryAt G c) suc count 0)
+  below-count p e = omega (arith, inside (knowns (lent G c count)) p e, length-map (lent G c count) (λ (x : Entry Item). x .known), lent-length G c count)
 
   pub found-all : {ps : List ℕ} → Each (λ p. p < count) ps → map (getElem? (knowns (lent G c count))) ps ≡ map some (map (statedAt c) ps)
   found-all each-none = refl

@@ -1,7 +1,7 @@
+-- What a lent record states, its order, its daughters, and that all of it decides whether the record is sound; last, that there is one answer.
 pub mod Statings
 pub mod Ordering
 pub mod Judging
 pub mod Entries
 pub mod Sounding
-pub mod Passed
 pub mod Once

@@ -32,7 +32,7 @@ same-place : {p q : ℕ} → At p ≡ At q → p ≡ q
 same-place e = cc
 
 pub finds-rule : {t : List ℕ} {f p : ℕ} {r : Found} → Finds t f r → r ≡ At p → RuleOf t p
-finds-rule {t} (known o m) e = subst (RuleOf t) (same-place e) (record { accepted = o .accepted; index = o .index; below = o .below; there = o .there })
+finds-rule {t} (known o m) e = subst (RuleOf t) (same-place e) o
 finds-rule (unknown m) e = let z : _≡_ {A = ℕ} 0 1 = cc in absurd (omega arith)
 
 pub finds-named : {t : List ℕ} {f n p : ℕ} {r : Found} → Finds t f r → f ≡ n → r ≡ At p → named (grammarOf t .rules) n ≡ some (ruleAt t p)

@@ -3,10 +3,12 @@ use mathlib.Core.Path.{_≡_, refl, sym, ap, _∙_, subst}
 use mathlib.Core.Logic.{_⊎_, inl, inr}
 use mathlib.Core.Option.{Option, none, some, Option·none-ne-some}
 use mathlib.Core.List.{List, [], _∷_, _++_, map, List·Memᴰ as Mem, List·Memᴰ·head as here}
-use Prim.Native.Nat.{ℕ, zero, suc, _+_, _*_, _≤_, _<_, min}
+use Prim.Native.Nat.{ℕ, zero, suc, _+_, _*_, _/_, _≤_, _<_, min}
 use native.Mathlib.Omega.{arith}
 use native.Mathlib.Decide.{decLt}
+use lib.Dec.{ltb}
 use lib.ListN.{length, drop, getElem?}
+use borrow.Author.Tests.{ltb-false}
 use Rattle.meaning.specs.declared.Refusal.{Refusal}
 use Rattle.meaning.specs.Refusals.{codeOf, placeOf}
 use Rattle.meaning.specs.Table.{Got, got, refused, _>>_, checkTable}
@@ -19,6 +21,7 @@ use Rattle.meaning.specs.Chart.{Known, Entry, Least, ChartOf, Made, Befo
 use Rattle.meaning.specs.Reading.{allowed, room, goal, Over, Deep, Verdict, yes-at, no-goal, laid, Read, bad-input, full, deep, read}
 use Rattle.meaning.specs.TreeWriting as tree
 use Rattle.meaning.specs.SentenceWriting.{fault, Reads, words, SentenceWritten, bad-table, too-many, wrong, no-room, wrote}
+use Rattle.meaning.proofs.Fields.{after}
 use Rattle.meaning.proofs.Order.{each-at}
 use Rattle.meaning.proofs.Theory.{at-mem, map-mem}
 use Rattle.meaning.proofs.Growth.{chart-height}
@@ -30,7 +33,7 @@ abbrev pub Same : ℕ → ℕ → ℕ → List ℕ → ℕ → ℕ → ℕ → L
 Same c p n a c′ p′ n′ a′ = (c ≡ c′) × (p ≡ p′) × (n ≡ n′) × (a ≡ a′)
 
 -- what is accepted is not refused
-never : {A : Type 0} {g : Got (Unit {0})} {r : Refusal} → g ≡ got tt → g ≡ refused r → A
+pub never : {A : Type 0} {g : Got (Unit {0})} {r : Refusal} → g ≡ got tt → g ≡ refused r → A
 never e f = let z : _≡_ {A = ℕ} 0 1 = cc in absurd (omega arith)
 
 same-refusal : {g : Got (Unit {0})} {r s : Refusal} → g ≡ refused r → g ≡ refused s → r ≡ s
@@ -42,6 +45,15 @@ table-accepted t w e = go (checkTable t) e
   where
     go : (g : Got (Unit {0})) → g >> checkWords w ≡ got tt → g ≡ got tt
     go (got tt) e = refl
+    go (refused r) e = let z : _≡_ {A = ℕ} 0 1 = cc in absurd (omega arith)
+
+-- accepted words are at most 64
+pub words-few : (t w : List ℕ) → checkInput t w ≡ got tt → length w / 2 ≤ 64
+unfolding checkInput checkWords
+words-few t w e = ltb-false 64 (length w / 2) (after (ltb 64 (length w / 2)) _ _ tt (go (checkTable t) e) .0)
+  where
+    go : (g : Got (Unit {0})) → g >> checkWords w ≡ got tt → checkWords w ≡ got tt
+    go (got tt) e = e
     go (refused r) e = let z : _≡_ {A = ℕ} 0 1 = cc in absurd (omega arith)
 
 pub valid-input : (t w : List ℕ) → checkInput t w ≡ got tt → Valid (grammarOf t)

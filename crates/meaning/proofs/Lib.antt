@@ -1,3 +1,5 @@
+-- The theory over meaning's definitions, each file over those before it: orders and tests, the two laws of trees and giving, charts over any
+-- rules of deduction, what an accepted table is, the writers, that each call has one result, and the worked cases.
 pub mod Order
 pub mod Tests
 pub mod Joining
@@ -12,12 +14,15 @@ pub mod Functions
 pub mod Places
 pub mod Tally
 pub mod Decoded
+pub mod Words
 pub mod Search
 pub mod Check
 pub mod Writer
 pub mod OneTree
 pub mod Walk
 pub mod Determined
+pub mod Codes
 pub mod Yes
 pub mod Passing
+pub mod Lending
 pub mod Worked

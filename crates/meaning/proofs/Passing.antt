@@ -32,7 +32,7 @@ sorted-at d (sorted-more p s) i zero h n = absurd (omega arith)
 sorted-at d (sorted-more {l = l} p s) zero (suc k) h n = each-at p (getD-mem d l k (omega arith))
 sorted-at d (sorted-more p s) (suc i) (suc k) h n = sorted-at d s i k (omega arith) (omega arith)
 
-past-suc : (i at : ℕ) → past i suc at ≡ at + i
+pub past-suc : (i at : ℕ) → past i suc at ≡ at + i
 unfolding past
 past-suc zero at = omega arith
 past-suc (suc i) at = past-suc i (suc at) ∙ omega arith

@@ -77,7 +77,7 @@ module _ (look : ℕ → Option Rule) where
       let q = passes (i + 1 + length fs) Bs rest h in
       let n : i + 1 + length fs + length gs ≡ i + suc (length (fs ++ gs)) = simp length-append (omega arith) in
       let s : walk look (i + 1) (r .daughters ++ (As ++ Bs)) ((fs ++ gs) ++ rest) ≡ walk look (i + suc (length (fs ++ gs))) Bs rest
-          = ap (λ (l : List ℕ). walk look (i + 1) (r .daughters ++ (As ++ Bs)) l) (append-assoc fs gs rest) ∙ p ∙ q ∙ ap (λ (j : ℕ). walk look j Bs rest) n in
+      = ap (λ (l : List ℕ). walk look (i + 1) (r .daughters ++ (As ++ Bs)) l) (append-assoc fs gs rest) ∙ p ∙ q ∙ ap (λ (j : ℕ). walk look j Bs rest) n in
       rw (e, eq-eqb (r .category) A (sym c)) s
 
 module _ (G : Grammar) where

@@ -21,7 +21,7 @@ at-known [] p q = let z : _≡_ {A = ℕ} 0 1 = cc in absurd (omega arith)
 at-known (e ∷ C) zero q = (e, refl, cc)
 at-known (e ∷ C) (suc p) q = at-known C p q
 
-getD-at : {A : Type 0} (l : List A) (p : ℕ) (d : A) {a : A} → getElem? l p ≡ some a → getD l p d ≡ a
+pub getD-at : {A : Type 0} (l : List A) (p : ℕ) (d : A) {a : A} → getElem? l p ≡ some a → getD l p d ≡ a
 getD-at [] p d q = let z : _≡_ {A = ℕ} 0 1 = cc in absurd (omega arith)
 getD-at (b ∷ l) zero d q = cc
 getD-at (b ∷ l) (suc p) d q = getD-at l p d q

@@ -7,9 +7,6 @@ use Prim.Native.Nat.{ℕ, zero, suc, _≤_, _<_}
 use native.Mathlib.Omega.{arith}
 use lib.ListN.{length, getD, getElem?, List·getD-eq-default}
 use lib.Seq.{take-length}
-use Rattle.meaning.specs.declared.Refusal.{Refusal}
-use Rattle.meaning.specs.declared.Refusal.the-variants.{Short, Mark, Version, Range, Category, Function, Symbol, Twice, Missing, Start, Trailing, Long, Odd, ZeroWord}
-use Rattle.meaning.specs.Refusals.{codeOf}
 use Rattle.meaning.specs.Table.{got}
 use Rattle.meaning.specs.Decode.{grammarOf, wordsOf, checkInput}
 use Rattle.meaning.specs.Range.{none, IsRange, Spans, Item, at}
@@ -24,6 +21,7 @@ use Rattle.meaning.proofs.Theory.{at-mem, map-mem}
 use Rattle.meaning.proofs.Spans.{spans-none}
 use Rattle.meaning.proofs.Laws.{spell-dimension, counts-all}
 use Rattle.meaning.proofs.Charts.{spells-sentence}
+use Rattle.meaning.proofs.Codes.{refusal-code}
 use Rattle.meaning.proofs.Determined.{valid-input}
 
 -- some tree of the start category spells the whole sentence
@@ -69,32 +67,16 @@ module _ {G : Grammar} {ws : List ℕ} {C : List (Entry Item)} (c : ChartOf G ws
   spelt-yes v (yes-at e) s = refl
   spelt-yes v (no-goal n) s = absurd (n (spelt-goal v s))
 
-refusal-code : (r : Refusal) → 2 ≤ codeOf r
-refusal-code (Short p) = omega arith
-refusal-code Mark = omega arith
-refusal-code Version = omega arith
-refusal-code (Range p) = omega arith
-refusal-code (Category p) = omega arith
-refusal-code (Function p) = omega arith
-refusal-code (Symbol p) = omega arith
-refusal-code (Twice p) = omega arith
-refusal-code (Missing p) = omega arith
-refusal-code (Start p) = omega arith
-refusal-code (Trailing p) = omega arith
-refusal-code Long = omega arith
-refusal-code (Odd p) = omega arith
-refusal-code (ZeroWord p) = omega arith
-
 -- over the reader's definition: a yes has its tree, and a no has none
 module _ {t w : List ℕ} {allowance : ℕ} {b : List ℕ} where
   pub yes-has-tree : {c p n : ℕ} {a : List ℕ} → Read t w allowance b c p n a → c ≡ 0 → Spelt (grammarOf t) (wordsOf w)
-  yes-has-tree (bad-input {r = r} e) h = absurd (omega (arith, refusal-code r))
+  yes-has-tree (bad-input {r = r} e) h = absurd (omega (arith, refusal-code r .0))
   yes-has-tree (full e o) h = absurd (omega arith)
   yes-has-tree (deep e o d) h = absurd (omega arith)
   yes-has-tree (read e c l v) h = yes-spelt c v h
 
   pub no-has-none : {c p n : ℕ} {a : List ℕ} → Read t w allowance b c p n a → c ≡ 1 → Spelt (grammarOf t) (wordsOf w) → ⊥
-  no-has-none (bad-input {r = r} e) h s = omega (arith, refusal-code r)
+  no-has-none (bad-input {r = r} e) h s = omega (arith, refusal-code r .0)
   no-has-none (full e o) h s = omega arith
   no-has-none (deep e o d) h s = omega arith
   no-has-none (read e c l v) h s = omega (arith, spelt-yes c (valid-input t w e) v s)

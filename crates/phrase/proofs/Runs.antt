@@ -61,7 +61,8 @@ module _ {a p b : Range} where
   goes start (inr i) h (next g f) (inr k) = after-end start (a .to) (omega arith) ∙ g
 
 module _ (ws : List ℕ) (e : ℕ → ℕ → Range) where
-  stands-proper : (s : Symbol) (p : Range) → Stands ws e s p → Proper p
+  -- where a symbol stands is a range
+  pub stands-proper : (s : Symbol) (p : Range) → Stands ws e s p → Proper p
   unfolding Stands
   stands-proper (word w) p h = inr (omega (arith, measure h .1))
   stands-proper (part k c) p (h, inl i) = inl i

@@ -9,8 +9,9 @@ use lib.ListN.{length, getD, take}
 use Rattle.meaning.specs.Range.{Range, Item}
 use Rattle.meaning.specs.Grammar.{Symbol}
 use Rattle.meaning.specs.Giving.{Run, Stands, held, Gives}
-use Rattle.meaning.specs.Table.{got, checkTable, number, dimensionOf, categoryOf}
-use Rattle.meaning.specs.Decode.{past, rowAt, rowEnd, rowsOf, ruleAt, ruleEnd, firstRule, grammarOf}
+use Rattle.meaning.specs.Table.{dimensionOf, categoryOf}
+use Rattle.meaning.specs.Decode.{past, rowAt, rowEnd, rowsOf, ruleAt, grammarOf}
+use Rattle.table.specs.Walk as walk
 use Rattle.phrase.specs.Row.{Starts}
 use Rattle.phrase.specs.declared.ranges.Range.{Range as Coded}
 use Rattle.phrase.specs.declared.ranges.Join.{Join}
@@ -65,11 +66,8 @@ EndsIn t (At place) = rowEnd t place ≤ length t
 EndsIn t Past = Unit {0}
 
 -- a rule of a table that is not refused starts here
-pub record RuleOf (t : List ℕ) (place : ℕ) : Type 0 where
-  pub accepted : checkTable t ≡ got tt
-  pub index : ℕ
-  pub below : index < number t 7
-  pub there : place ≡ past index (ruleEnd t) (firstRule t)
+abbrev pub RuleOf : List ℕ → ℕ → Type 0
+RuleOf = walk.RuleOf
 
 -- the symbols of row i of the rule at a place, from 0
 abbrev pub rowOf : List ℕ → ℕ → ℕ → List Symbol

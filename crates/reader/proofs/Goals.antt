@@ -16,7 +16,7 @@ use Rattle.store.specs.Set.{Sorted, Lower, keyOf}
 use Rattle.store.specs.Code.{unpacked, packed, Small, knownOf}
 use Rattle.store.proofs.Packing.{unpack-pack, pack-unpack}
 use Rattle.store.proofs.Sets.{held-no}
-use Rattle.search.proofs.Whole.{thing}
+use Rattle.search.proofs.Whole.{thing, same-items}
 use Rattle.reader.specs.Answers.{goalKey, Judged, stands, stands-not}
 
 pub start-small : (t : List ℕ) → checkTable t ≡ got tt → byte t 6 ≤ 64
@@ -26,18 +26,6 @@ getElem-map : {A B : Type 0} (f : A → B) (l : List A) (p : ℕ) (d : A) → p 
 getElem-map f [] p d h = absurd (omega arith)
 getElem-map f (x ∷ l) zero d h = refl
 getElem-map f (x ∷ l) (suc p) d h = getElem-map f l p d (omega arith)
-
--- items with their heights are those of the codes, so the items are
-things-items : (E : List (Entry Item)) (K : List ℕ) → knowns E ≡ map knownOf K → items E ≡ map thing K
-things-items E K q = both E ∙ ap (map item) q ∙ others K
-  where
-    both : (E : List (Entry Item)) → items E ≡ map item (knowns E)
-    both [] = refl
-    both (x ∷ E) = ap (λ (l : List Item). item-of x ∷ l) (both E)
-
-    others : (K : List ℕ) → map item (map knownOf K) ≡ map thing K
-    others [] = refl
-    others (c ∷ K) = ap (λ (l : List Item). thing c ∷ l) (others K)
 
 -- what stands where the goal's codes begin
 module _ (K : List ℕ) (x key place : ℕ) (q : key ≡ x) where
@@ -75,7 +63,7 @@ module _ (t ws : List ℕ) (e : checkTable t ≡ got tt) (short : length ws ≤ 
   pub judged-verdict : (E : List (Entry Item)) (K : List ℕ) → knowns E ≡ map knownOf K → {code place count : ℕ}
       → Judged (goalKey (byte t 6) (length ws)) K code place count → Verdict (grammarOf t) ws E code place
   judged-verdict E K q (stands {p = p} h k n) =
-      yes-at (ap (λ (l : List Item). getElem? l p) (things-items E K q) ∙ getElem-map thing K p 0 h ∙ ap just (goal-thing (getD K p 0) k))
+      yes-at (ap (λ (l : List Item). getElem? l p) (same-items E K q) ∙ getElem-map thing K p 0 h ∙ ap just (goal-thing (getD K p 0) k))
   judged-verdict E K q (stands-not {n = n} lacks m) = no-goal (λ i.
-      let (c, j, g) = map-mem thing K (rw (things-items E K q) at i) in
+      let (c, j, g) = map-mem thing K (rw (same-items E K q) at i) in
       lacks (record { code = c; there = j; is = sym (pack-unpack (keyOf c)) ∙ ap packed (sym g) ∙ goal-key }))

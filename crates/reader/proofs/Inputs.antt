@@ -11,10 +11,12 @@ use Rattle.meaning.specs.Table.{Got, got, refused, _>>_, checkTable}
 use Rattle.meaning.specs.declared.Refusal.the-variants.{Long}
 use Rattle.meaning.specs.Decode.{wordsOf, checkWords, checkInput}
 use Rattle.meaning.specs.Reading.{allowed}
-use Rattle.meaning.proofs.Ends.{unrefused, fine-table}
+use Rattle.meaning.proofs.Determined.{words-few}
+use Rattle.meaning.proofs.Ends.{fine-table}
 use Rattle.table.specs.Views.{filled}
 use Rattle.table.specs.Walk.{Ranked, Ordered}
-use Rattle.table.proofs.Sentence.{words-length, filled-exactly}
+use Rattle.meaning.proofs.Words.{words-length}
+use Rattle.table.proofs.Sentence.{filled-exactly}
 use Rattle.reader.specs.Records.{Ruled}
 
 -- 'more than 2,000 is taken as 2,000', of an allowance that is not 0
@@ -58,11 +60,5 @@ words-kept b lent out h e =
 pub prefix-there : (n : ℕ) (l : List ℕ) {ws : List ℕ} → take n l ≡ ws → length ws ≡ n → n ≤ length l
 prefix-there n l e h = omega (arith, length-take n l, ap length e)
 
--- what the checks have shown
-then : (x y : Got (Unit {0})) → x >> y ≡ got tt → (x ≡ got tt) × (y ≡ got tt)
-then (got tt) y e = (refl, e)
-then (refused r) y e = let z : _≡_ {A = ℕ} 0 1 = cc in absurd (omega arith)
-
 pub words-short : (t w : List ℕ) → checkInput t w ≡ got tt → length (wordsOf w) ≤ 64
-unfolding checkInput checkWords
-words-short t w e = omega (arith, words-length w, ltb-false 64 (length w / 2) (unrefused (ltb 64 (length w / 2)) Long (then _ _ (then (checkTable t) _ e .1) .0)))
+words-short t w e = omega (arith, words-length w, words-few t w e)

@@ -7,12 +7,7 @@ ghost use Rattle.reader.specs.Answers.{codeOf, placeOf, countOf, goalKey
 use crate::Answer;
 use store::find;
 use table::byte_at;
-
-fn wide(x: usize) -> u64
-    ensures { λ r. ⌜ r ≡ x ⌝ }
-{
-    x as u64
-}
+use table::wide;
 
 // The goal's key.
 fn goal_key(start: u16, n: usize) -> u64

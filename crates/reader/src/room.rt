@@ -2,16 +2,7 @@
 ghost use mathlib.Core.Path.{_≡_};
 ghost use Prim.Native.Nat.{_/_, min};
 ghost use Rattle.meaning.specs.Reading.{allowed};
-
-// The smaller of two numbers.
-fn smaller(a: usize, b: usize) -> usize
-    ensures { λ r. ⌜ r ≡ min a b ⌝ }
-{
-    if a < b {
-        return a;
-    }
-    b
-}
+use table::smaller;
 
 // What is allowed: 0 means 2,000, and more than that is taken as that.
 fn allowed_of(allowance: usize) -> usize

@@ -1,3 +1,5 @@
+-- Laws of the search: filling a set, parts of it, levels, keys of items; that all codes are the chart; choosing daughters, offering what the
+-- rows give, rule by rule, and rules that are alike.
 pub mod Filling
 pub mod Parts
 pub mod Levels

@@ -64,6 +64,18 @@ more-over t ws {room} M = record {
   more = omega (arith, M .many, length-map (M .some) thing);
 }
 
+-- entries of codes have the codes' items
+pub same-items : (E : List (Entry Item)) (C : List ℕ) → knowns E ≡ map knownOf C → items E ≡ map thing C
+same-items E C q = both E ∙ ap (map item) q ∙ others C
+  where
+    both : (E : List (Entry Item)) → items E ≡ map item (knowns E)
+    both [] = refl
+    both (x ∷ E) = ap (λ (l : List Item). item-of x ∷ l) (both E)
+
+    others : (C : List ℕ) → map item (map knownOf C) ≡ map thing C
+    others [] = refl
+    others (c ∷ C) = ap (λ (l : List Item). thing c ∷ l) (others C)
+
 -- with the chosen functions and daughters, all codes are the chart
 pub all-chart : (t ws : List ℕ) → checkTable t ≡ got tt → length ws ≤ 64 → {C : List ℕ} → All (KeyMade t ws) C → (E : List (Entry Item)) → knowns E ≡ map knownOf C
     → Each (Chosen (GivenBy (grammarOf t) ws) (knowns E)) E → ChartOf (grammarOf t) ws E
@@ -80,15 +92,7 @@ all-chart t ws e short {C} A E q choices = record {
 }
   where
     same : items E ≡ map thing C
-    same = both E ∙ ap (map item) q ∙ others C
-      where
-        both : (E : List (Entry Item)) → items E ≡ map item (knowns E)
-        both [] = refl
-        both (x ∷ E) = ap (λ (l : List Item). item-of x ∷ l) (both E)
-
-        others : (C : List ℕ) → map item (map knownOf C) ≡ map thing C
-        others [] = refl
-        others (c ∷ C) = ap (λ (l : List Item). thing c ∷ l) (others C)
+    same = same-items E C q
 
     least : (k : Known Item) → Mem k (knowns E) → Least (Made (grammarOf t) ws) k
     least k m =

@@ -1,3 +1,5 @@
+-- What one level adds, what the search finds, keys of packed items, places that are walked, what a rule gives with some daughters chosen, and
+-- rules that are alike.
 pub mod Level
 pub mod Search
 pub mod Keys

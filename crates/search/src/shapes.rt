@@ -27,7 +27,7 @@ fn same_shape(table: &[u8], a: usize, b: usize) -> bool
 }
 
 // Whether one of the first n rules is equal to a rule but for the function number.
-pub fn has_shape(table: &[u8], rule: usize, n: usize) -> bool
+pub(crate) fn has_shape(table: &[u8], rule: usize, n: usize) -> bool
     requires { ⌜ RuleOf (now table) rule × (n ≤ number (now table) 7) ⌝ }
     ensures { λ r. ⌜ Decides (LikeBefore (now (table .entry)) rule n) r ⌝ }
 {

@@ -30,6 +30,7 @@ use phrase::row_next;
 use phrase::row_of;
 use table::byte_at;
 use table::size;
+use table::wide;
 
 // The item of a code.
 pub fn unpack(c: u64) -> Item
@@ -87,12 +88,6 @@ pub fn top(d: Daughters) -> u16
     ensures { λ r. ⌜ r ≡ max (d .one .height) (max (d .two .height) (d .three .height)) ⌝ }
 {
     higher(d.one.height, higher(d.two.height, d.three.height))
-}
-
-fn wide(x: usize) -> u64
-    ensures { λ r. ⌜ r ≡ x ⌝ }
-{
-    x as u64
 }
 
 // The key of an item with these ranges.
@@ -340,7 +335,7 @@ pub fn none_of(count: usize) -> Daughters
 }
 
 // Enters what the rule gives from known items at a height.
-pub fn combine(
+pub(crate) fn combine(
     table: &[u8],
     words: &[u16],
     rule: usize,

@@ -12,11 +12,15 @@ use lib.Dec.{eqb}
 use lib.ListN.{length, getD, take, drop, set, length-map, drop-of-length-le, List·getD-eq-default}
 use lib.Seq.{drop-cons, take-suc, take-suc-set}
 use Rattle.meaning.specs.Grammar.{Rule, Grammar}
-use Rattle.meaning.specs.Table.{number, rankOf}
+use Rattle.meaning.specs.Table.{got, number, rankOf, checkTable}
 use Rattle.meaning.specs.Decode.{past, several, ruleAt, ruleEnd, firstRule, grammarOf}
 use Rattle.meaning.specs.Accepted.{FineRule, FineTable}
 use Rattle.meaning.specs.TreeWriting.{named}
 use Rattle.meaning.proofs.Places.{rule-grows′, first-is}
+use Rattle.table.specs.declared.walk.Found.{Found}
+use Rattle.table.specs.declared.walk.Found.the-variants.{At, Unknown}
+use Rattle.table.specs.Walk.{Finds, known, unknown}
+use Rattle.table.proofs.Once.{finds-once}
 use Rattle.sentence.specs.Nodes.{seek, placeFor, ruleOf, Within, taken}
 
 pub rule-of : (t : List ℕ) (p : ℕ) → 1 ≤ p → ruleOf t p ≡ some (ruleAt t p)
@@ -28,6 +32,11 @@ pub of-rule : (t : List ℕ) (p : ℕ) {r : Rule} → ruleOf t p ≡ some r → 
 unfolding ruleOf
 of-rule t zero e = let z : _≡_ {A = ℕ} 0 1 = cc in absurd (omega arith)
 of-rule t (suc p) e = (omega arith, cc)
+
+no-rule : (t : List ℕ) (p : ℕ) → p ≡ 0 → ruleOf t p ≡ none
+unfolding ruleOf
+no-rule t zero e = refl
+no-rule t (suc p) e = absurd (omega arith)
 
 -- the search over places is the search over rules
 pick : (b : Bool) (t : List ℕ) (at s : ℕ) {o : Option Rule} → 1 ≤ at → o ≡ ruleOf t s → cond b (some (ruleAt t at)) o ≡ ruleOf t (cond b at s)
@@ -80,20 +89,25 @@ module _ (t : List ℕ) (v : FineTable t) where
       go i (yes l) = let f = fine-node fs i (omega arith) in omega (arith, f .within)
       go i (no l) = omega arith
 
--- For the loops: a turn of the search, and its ends.
-pub seek-hit : (n : ℕ) (t : List ℕ) (f at : ℕ) → 0 < n → number t at ≡ f → seek n t f at ≡ at
-unfolding seek
-seek-hit zero t f at h e = absurd (omega arith)
-seek-hit (suc n) t f at h e = rw (eq-eqb (number t at) f e)
+-- what the table's own search finds is this place
+at-same : {p q : ℕ} → At p ≡ At q → p ≡ q
+at-same e = cc
 
-pub seek-miss : (n : ℕ) (t : List ℕ) (f at : ℕ) → 0 < n → (number t at ≡ f → ⊥) → seek n t f at ≡ seek (n - 1) t f (ruleEnd t at)
-unfolding seek
-seek-miss zero t f at h e = absurd (omega arith)
-seek-miss (suc n) t f at h e = rw (ne-eqb (number t at) f e) (let m : n ≡ suc n - 1 = omega arith in ap (λ (k : ℕ). seek k t f (ruleEnd t at)) m)
+not-unknown : {p : ℕ} → At p ≡ Unknown → ⊥
+not-unknown e = let z : _≡_ {A = ℕ} 0 1 = cc in omega arith
 
-pub seek-none : (n : ℕ) (t : List ℕ) (f at : ℕ) → n ≡ 0 → seek n t f at ≡ 0
-unfolding seek
-seek-none n t f at e = rw e
+pub found-place : (t : List ℕ) (f : ℕ) → checkTable t ≡ got tt → {r : Found} → Finds t f r → ((p : ℕ) → r ≡ At p → p ≡ placeFor t f) × (r ≡ Unknown → 0 ≡ placeFor t f)
+found-place t f ok {r} F = go (decLt 0 (placeFor t f))
+  where
+    go : Dec (0 < placeFor t f) → ((p : ℕ) → r ≡ At p → p ≡ placeFor t f) × (r ≡ Unknown → 0 ≡ placeFor t f)
+    go (yes h) =
+        let (i, l, e) = seek-found (number t 7) t f (firstRule t) h in
+        let q = finds-once t f F (known (record { accepted = ok; index = i; below = l; there = e }) (place-named t f ∙ rule-of t (placeFor t f) h)) in
+        (λ p x. at-same (sym x ∙ q), λ x. absurd (not-unknown (sym q ∙ x)))
+    go (no h) =
+        let z : placeFor t f ≡ 0 = omega arith in
+        let q = finds-once t f F (unknown (place-named t f ∙ no-rule t (placeFor t f) z)) in
+        (λ p x. absurd (not-unknown (sym x ∙ q)), λ x. sym z)
 
 -- one node more is noted
 map-snoc : (g : ℕ → ℕ) (xs : List ℕ) (x : ℕ) → map g (xs ++ (x ∷ [])) ≡ map g xs ++ (g x ∷ [])

@@ -6,34 +6,16 @@ use Prim.Native.Nat.{ℕ, _≤_}
 use native.Mathlib.Omega.{arith}
 use lib.ListN.{length, take, drop, length-append, length-drop}
 use lib.Seq.{take-at, drop-at}
-use Rattle.meaning.specs.declared.Refusal.{Refusal}
-use Rattle.meaning.specs.declared.Refusal.the-variants.{Short, Mark, Version, Range, Category, Function, Symbol, Twice, Missing, Start, Trailing, Long, Odd, ZeroWord}
-use Rattle.meaning.specs.Refusals as refusal
 use Rattle.meaning.specs.Grammar.{Tree, Of, functions}
 use Rattle.meaning.specs.Table.{got, checkTable}
 use Rattle.meaning.specs.Decode.{grammarOf}
 use Rattle.meaning.specs.SentenceWriting.{Reads, words, SentenceWritten, bad-table, too-many, wrong, no-room, wrote}
+use Rattle.meaning.proofs.Codes.{refusal-code}
 use Rattle.meaning.proofs.Decoded.{valid-grammar}
 use Rattle.meaning.proofs.Walk.{one-tree}
 use Rattle.meaning.proofs.Determined.{Same, same-sentence}
 use Rattle.sentence.specs.declared.Answer.{Answer}
 use Rattle.sentence.specs.Answers.{codeOf, placeOf, countOf}
-
-refusal-code : (r : Refusal) → 2 ≤ refusal.codeOf r
-refusal-code (Short p) = omega arith
-refusal-code Mark = omega arith
-refusal-code Version = omega arith
-refusal-code (Range p) = omega arith
-refusal-code (Category p) = omega arith
-refusal-code (Function p) = omega arith
-refusal-code (Symbol p) = omega arith
-refusal-code (Twice p) = omega arith
-refusal-code (Missing p) = omega arith
-refusal-code (Start p) = omega arith
-refusal-code (Trailing p) = omega arith
-refusal-code Long = omega arith
-refusal-code (Odd p) = omega arith
-refusal-code (ZeroWord p) = omega arith
 
 -- n words stand at the front of the text after the call: those of the one tree that the list is; the rest is as lent
 pub record Spelled (table list before : List ℕ) (n : ℕ) (after : List ℕ) : Type 0 where
@@ -47,7 +29,7 @@ pub record Spelled (table list before : List ℕ) (n : ℕ) (after : List ℕ) :
 
 module _ (t l b : List ℕ) where
   pub words-spelled : {c p n : ℕ} {a : List ℕ} → SentenceWritten t l b c p n a → c ≡ 0 → Spelled t l b n a
-  words-spelled (bad-table {r} e) z = absurd (omega (arith, refusal-code r))
+  words-spelled (bad-table {r} e) z = absurd (omega (arith, refusal-code r .0))
   words-spelled (too-many e h) z = absurd (omega arith)
   words-spelled (wrong e h f) z = absurd (omega arith)
   words-spelled (no-room e h r m) z = absurd (omega arith)

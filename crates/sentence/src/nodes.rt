@@ -3,53 +3,48 @@ ghost use mathlib.Core.Path.{_≡_};
 ghost use mathlib.Core.List.{map};
 ghost use Prim.Native.Nat.{_≤_};
 ghost use lib.ListN.{length, getD};
-ghost use Rattle.meaning.specs.Accepted.{FineTable};
+ghost use Rattle.meaning.specs.Table.{got, checkTable};
 ghost use Rattle.sentence.specs.Nodes as spec;
 ghost use Rattle.sentence.specs.Nodes.{placeFor, Within};
+use table::Found;
 use table::byte_at;
-use table::number_at;
-use table::rule_end;
+use table::find_rule;
 use table::size;
 
 // The place of the rule with a function number; 0 where there is none.
-fn find_rule(table: &[u8], function: u16) -> usize
-    requires { ⌜ FineTable (now table) ⌝ }
+fn place_for(table: &[u8], function: u16) -> usize
+    requires { ⌜ checkTable (now table) ≡ got tt ⌝ }
     ensures { λ r. ⌜ r ≡ placeFor (now (table .entry)) function ⌝ }
 {
-    let mut at = 9 + size(byte_at(table, 5));
-    let mut left = number_at(table, 7);
-    while left > 0 {
-        if number_at(table, at) == function {
-            return at;
-        }
-        at = rule_end(table, at);
-        left -= 1;
+    let found = find_rule(table, function);
+    match found {
+        Found::At(place) => place,
+        Found::Unknown => 0,
     }
-    0
 }
 
 // Notes the place of each node's rule.
-pub fn note(table: &[u8], list: &[u16], nodes: &mut [usize])
-    requires { ⌜ FineTable (now table) ⌝ }
+pub(crate) fn note(table: &[u8], list: &[u16], nodes: &mut [usize])
+    requires { ⌜ checkTable (now table) ≡ got tt ⌝ }
     requires { ⌜ length (now nodes) ≡ length (now list) ⌝ }
     ensures { λ _. ⌜ now (nodes .exit) ≡ map (placeFor (now (table .entry))) (now (list .entry)) ⌝ }
 {
     let mut i = 0;
     while i < list.len() {
-        nodes[i] = find_rule(table, list[i]);
+        nodes[i] = place_for(table, list[i]);
         i += 1;
     }
 }
 
 // The place of a node's rule, 0 past the last node.
-pub fn node_at(nodes: &[usize], at: usize) -> usize
+pub(crate) fn node_at(nodes: &[usize], at: usize) -> usize
     ensures { λ r. ⌜ r ≡ getD (now (nodes .entry)) at 0 ⌝ }
 {
     if at < nodes.len() { nodes[at] } else { 0 }
 }
 
 // Where daughter k of the node at a place stands, both from 0.
-pub fn daughter(table: &[u8], nodes: &[usize], at: usize, k: usize) -> usize
+pub(crate) fn daughter(table: &[u8], nodes: &[usize], at: usize, k: usize) -> usize
     requires { ⌜ Within (now table) (now nodes) ⌝ }
     requires { ⌜ (at ≤ 510) × (k ≤ 255) ⌝ }
     ensures { λ r. ⌜ r ≡ spec.daughter (now (table .entry)) (now (nodes .entry)) at k ⌝ }

@@ -47,7 +47,7 @@ fn put(text: &mut [u16], at: usize, word: u16)
 }
 
 // Writes constituent c of the tree at a node, of at most left levels, from pos on, as far as there is room; answers the place after it.
-pub fn say(
+pub(crate) fn say(
     table: &[u8],
     nodes: &[usize],
     left: usize,

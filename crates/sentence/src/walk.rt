@@ -31,7 +31,7 @@ fn push(table: &[u8], rule: usize, stack: &mut [u16], wanted: usize) -> usize
 }
 
 // Each node takes the wanted category on top, and puts at most three in its place: 255 nodes never want more than 511.
-pub fn first_wrong(table: &[u8], nodes: &[usize]) -> Walked
+pub(crate) fn first_wrong(table: &[u8], nodes: &[usize]) -> Walked
     requires { ⌜ Within (now table) (now nodes) ⌝ }
     ensures { λ r. ⌜ walkedOf r ≡ walked (now (table .entry)) (now (nodes .entry)) ⌝ }
 {

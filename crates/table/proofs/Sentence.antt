@@ -11,8 +11,8 @@ use lib.Seq.{paste-suc, take-all}
 use borrow.Author.Tests.{eq-eqb, ne-eqb}
 use Rattle.meaning.specs.declared.Refusal.the-variants.{ZeroWord}
 use Rattle.meaning.specs.Table.{got, refused, _>>_, number}
-use Rattle.meaning.specs.Decode.{past, several, wordsOf, wordThere}
-use Rattle.meaning.proofs.Decoded.{several-length, several-at}
+use Rattle.meaning.specs.Decode.{wordsOf, wordThere}
+use Rattle.meaning.proofs.Words.{words-length, word-at}
 use Rattle.table.specs.declared.Verdict.{Verdict}
 use Rattle.table.specs.declared.Verdict.the-variants.{Valid, Invalid}
 use Rattle.table.specs.Views.{verdictOf, verdictWith, filled}
@@ -32,49 +32,34 @@ pub forget : {A : Type 0} (r : Verdict) (a : A) → verdictOf r ≡ verdictWith 
 forget Valid a = refl
 forget (Invalid r) a = refl
 
--- word i is the number at byte 2 i
-past-two : (n at : ℕ) → past n (λ p. p + 2) at ≡ at + 2 * n
-unfolding past
-past-two zero at = omega arith
-past-two (suc n) at = past-two n (at + 2) ∙ omega arith
+module _ (b lent : List ℕ) where
+  -- the slice after the first i words were written
+  abbrev pub written : ℕ → List ℕ
+  written i = take i (wordsOf b) ++ drop i lent
 
-module _ (b : List ℕ) where
-  pub words-length : length (wordsOf b) ≡ length b / 2
-  unfolding wordsOf
-  words-length = several-length (number b) (λ p. p + 2) (length b / 2) 0
+  pub write-next : (ws : List ℕ) (i v : ℕ) → i < length lent → i < length b / 2 → v ≡ number b (2 * i) → ws ≡ written i → set ws i v ≡ written (i + 1)
+  write-next ws i v h k e f =
+      let l : i < length (wordsOf b) = omega (arith, words-length b) in
+      rw (f, e, ← word-at b i k, add-one) (simp zero-add at (paste-suc lent 0 (wordsOf b) i 0 (rw zero-add h) l))
 
-  pub word-at : (i : ℕ) → i < length b / 2 → getD (wordsOf b) i 0 ≡ number b (2 * i)
-  unfolding wordsOf
-  word-at i h = several-at (number b) (λ p. p + 2) (length b / 2) 0 i 0 h ∙ ap (number b) (past-two i 0 ∙ omega arith)
+  -- where as many were written as there are, or as fit
+  pub all-written : (i : ℕ) → i ≡ min (length lent) (length b / 2) → written i ≡ filled (wordsOf b) lent
+  unfolding filled
+  all-written i e = go (decLt (length lent) (length b / 2))
+    where
+      go : Dec (length lent < length b / 2) → written i ≡ take (length lent) (wordsOf b) ++ drop (length (wordsOf b)) lent
+      go (yes l) =
+          let q : i ≡ length lent = omega arith in
+          let d = drop-of-length-le lent {i = length lent} (omega arith) in
+          let d′ = drop-of-length-le lent {i = length (wordsOf b)} (omega (arith, words-length b)) in
+          rw (q, d, d′)
+      go (no l) =
+          let q : i ≡ length (wordsOf b) = omega (arith, words-length b) in
+          rw (q, take-all (length (wordsOf b)) (wordsOf b) (omega arith), take-all (length lent) (wordsOf b) (omega (arith, words-length b)))
 
-  module _ (lent : List ℕ) where
-    -- the slice after the first i words were written
-    abbrev pub written : ℕ → List ℕ
-    written i = take i (wordsOf b) ++ drop i lent
-
-    pub write-next : (ws : List ℕ) (i v : ℕ) → i < length lent → i < length b / 2 → v ≡ number b (2 * i) → ws ≡ written i → set ws i v ≡ written (i + 1)
-    write-next ws i v h k e f =
-        let l : i < length (wordsOf b) = omega (arith, words-length) in
-        rw (f, e, ← word-at i k, add-one) (simp zero-add at (paste-suc lent 0 (wordsOf b) i 0 (rw zero-add h) l))
-
-    -- where as many were written as there are, or as fit
-    pub all-written : (i : ℕ) → i ≡ min (length lent) (length b / 2) → written i ≡ filled (wordsOf b) lent
-    unfolding filled
-    all-written i e = go (decLt (length lent) (length b / 2))
-      where
-        go : Dec (length lent < length b / 2) → written i ≡ take (length lent) (wordsOf b) ++ drop (length (wordsOf b)) lent
-        go (yes l) =
-            let q : i ≡ length lent = omega arith in
-            let d = drop-of-length-le lent {i = length lent} (omega arith) in
-            let d′ = drop-of-length-le lent {i = length (wordsOf b)} (omega (arith, words-length)) in
-            rw (q, d, d′)
-        go (no l) =
-            let q : i ≡ length (wordsOf b) = omega (arith, words-length) in
-            rw (q, take-all (length (wordsOf b)) (wordsOf b) (omega arith), take-all (length lent) (wordsOf b) (omega (arith, words-length)))
-
-    -- a slice of the words' number holds them exactly
-    pub filled-exactly : length lent ≡ length b / 2 → filled (wordsOf b) lent ≡ wordsOf b
-    unfolding filled
-    filled-exactly e =
-        rw (take-all (length lent) (wordsOf b) (omega (arith, words-length)), drop-of-length-le lent {i = length (wordsOf b)} (omega (arith, words-length)))
-        (append-nil (wordsOf b))
+  -- a slice of the words' number holds them exactly
+  pub filled-exactly : length lent ≡ length b / 2 → filled (wordsOf b) lent ≡ wordsOf b
+  unfolding filled
+  filled-exactly e =
+      rw (take-all (length lent) (wordsOf b) (omega (arith, words-length b)), drop-of-length-le lent {i = length (wordsOf b)} (omega (arith, words-length b)))
+      (append-nil (wordsOf b))

@@ -14,6 +14,7 @@ mod marks;
 mod order;
 mod rows;
 mod rules;
+mod sizes;
 mod walk;
 mod words;
 
@@ -21,6 +22,8 @@ pub use bytes::byte_at;
 pub use bytes::number_at;
 pub use bytes::size;
 pub use order::order_rules;
+pub use sizes::smaller;
+pub use sizes::wide;
 pub use walk::Found;
 pub use walk::find_rule;
 pub use walk::first_rule;

@@ -6,6 +6,7 @@ ghost use Rattle.meaning.specs.Decode.{wordsOf, wordThere, checkWords};
 ghost use Rattle.table.specs.Views.{verdictOf, verdictWith, filled};
 use crate::Verdict;
 use crate::bytes::number_at;
+use crate::sizes::smaller;
 use meaning::Refusal;
 
 // That none of the first count words is 0, or the first that is.
@@ -38,13 +39,6 @@ pub fn check_words(words: &[u8]) -> Verdict
         return Verdict::Invalid(Refusal::Odd(last));
     }
     check_each(words, count)
-}
-
-// The smaller of two numbers.
-fn smaller(a: usize, b: usize) -> usize
-    ensures { λ r. ⌜ r ≡ min a b ⌝ }
-{
-    if a < b { a } else { b }
 }
 
 // Writes the words, as many as the slice holds; the rest of the slice stays as lent.

@@ -1,16 +1,13 @@
--- From the checks to the answer: what the chart's check has shown, that there are at most 64 words, and that what was judged is what the
+-- From the checks to the answer: what the chart's check has shown, and that what was judged is what the
 -- definition says.
 use mathlib.Core.Path.{_≡_, refl, subst}
 use mathlib.Core.List.{List}
-use Prim.Native.Nat.{ℕ, _/_, _≤_, _<_}
+use Prim.Native.Nat.{ℕ, _≤_, _<_}
 use native.Mathlib.Omega.{arith}
-use lib.Dec.{ltb}
 use lib.ListN.{length}
-use borrow.Author.Tests.{ltb-false}
-use Rattle.meaning.specs.Table.{Got, got, refused, _>>_, checkTable}
-use Rattle.meaning.specs.Decode.{grammarOf, wordsOf, checkWords, checkInput}
+use Rattle.meaning.specs.Table.{got}
+use Rattle.meaning.specs.Decode.{grammarOf, wordsOf, checkInput}
 use Rattle.meaning.specs.TreeWriting.{TooMany, Passes, FirstBad, nodes, treeRoom, TreeWritten, too-many, bad-record, no-place, no-room, wrote}
-use Rattle.meaning.proofs.Fields.{after}
 use Rattle.lent.specs.declared.ChartAnswer.{ChartAnswer}
 use Rattle.lent.specs.declared.ChartAnswer.the-variants.{Good, Many, Bad}
 use Rattle.lent.specs.Lent.{Checked, good}
@@ -33,15 +30,6 @@ module _ {t ws c : List ℕ} {count : ℕ} where
   was-bad (good p) e = let z : _≡_ {A = ℕ} 0 1 = cc in absurd (omega arith)
   was-bad (chart.many m) e = let z : _≡_ {A = ℕ} 0 1 = cc in absurd (omega arith)
   was-bad {i = i} (chart.bad {i = j} f) e = let q : j ≡ i = cc in subst (FirstBad (grammarOf t) ws c count) q f
-
--- accepted words are at most 64
-pub few-words : (t w : List ℕ) → checkInput t w ≡ got tt → length w / 2 ≤ 64
-unfolding checkInput checkWords
-few-words t w e = ltb-false 64 (length w / 2) (after (ltb 64 (length w / 2)) _ _ tt (go (checkTable t) e) .0)
-  where
-    go : (g : Got (Unit {0})) → g >> checkWords w ≡ got tt → checkWords w ≡ got tt
-    go (got tt) e = e
-    go (refused r) e = let z : _≡_ {A = ℕ} 0 1 = cc in absurd (omega arith)
 
 module _ (t w c : List ℕ) (count root : ℕ) (b : List ℕ) (e : checkInput t w ≡ got tt) where
   module _ (s : Passes (grammarOf t) (wordsOf w) c count) where

@@ -15,7 +15,9 @@ use Rattle.meaning.specs.Chart.{Known, tallest, GivenBy, knowns, known-of}
 use Rattle.meaning.specs.TreeWriting.{named, rankOf, statedAt, entryAt, lent, Passes, blank}
 use Rattle.meaning.proofs.Order.{each-at}
 use Rattle.meaning.proofs.Theory.{bounded}
-use Rattle.meaning.proofs.Decoded.{several-length, several-at, valid-grammar}
+use Rattle.meaning.proofs.Decoded.{valid-grammar}
+use Rattle.meaning.proofs.Lending.{lent-length, entry-at}
+use Rattle.meaning.proofs.Writer.{getD-at}
 use Rattle.meaning.proofs.Passing.{slice-at}
 use Rattle.meaning.proofs.Walk.{found}
 use Rattle.tree.specs.Writing.{rank, functionAt, heightAt, placeAt, Falling}
@@ -33,20 +35,10 @@ at-places l (p ∷ ps) [] q k h = absurd (cons≢nil q)
 at-places l (p ∷ ps) (d ∷ ds) q zero h = (d, here refl, cc)
 at-places l (p ∷ ps) (d ∷ ds) q (suc k) h = let (e, m, r) = at-places l ps ds (cc) k (omega arith) in (e, there m, r)
 
-past-suc : (i at : ℕ) → past i suc at ≡ at + i
-unfolding past
-past-suc zero at = omega arith
-past-suc (suc i) at = past-suc i (suc at) ∙ omega arith
-
 -- the entries of a lent chart
 module _ (G : Grammar) (c : List ℕ) (count : ℕ) where
-  lent-length : length (lent G c count) ≡ count
-  unfolding lent
-  lent-length = several-length (entryAt G c) suc count 0
-
   pub lent-at : (i : ℕ) → i < count → getD (lent G c count) i blank ≡ entryAt G c i
-  unfolding lent
-  lent-at i h = several-at (entryAt G c) suc count 0 i blank h ∙ ap (entryAt G c) (past-suc i 0 ∙ omega arith)
+  lent-at i h = getD-at (lent G c count) i blank (entry-at G c count i h)
 
 pub stated-height : (c : List ℕ) (i : ℕ) → statedAt c i .height ≡ heightAt c i
 unfolding statedAt

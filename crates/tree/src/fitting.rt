@@ -9,13 +9,7 @@ ghost use Rattle.tree.specs.Writing.{Falling};
 ghost use Rattle.tree.specs.Answers.{codeOf, placeOf, countOf, Fitted, Rooted};
 use crate::answer::TreeAnswer;
 use crate::writing::write;
-
-// The smaller of two numbers.
-fn smaller(a: usize, b: usize) -> usize
-    ensures { λ r. ⌜ r ≡ min a b ⌝ }
-{
-    if a < b { a } else { b }
-}
+use table::smaller;
 
 // Copies numbers to the front of a slice.
 fn put(out: &mut [u16], numbers: &[u16])
@@ -53,7 +47,7 @@ fn fit(
 }
 
 // The tree writer over a chart that passed.
-pub fn write_root(
+pub(crate) fn write_root(
     table: &[u8],
     chart: &[u16],
     count: usize,

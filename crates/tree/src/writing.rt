@@ -26,7 +26,7 @@ fn rank_of(table: &[u8], function: u16) -> usize
 }
 
 // Writes the tree of record `at` from `pos` on, and answers the place after it; where there is no room for it, one more than the room.
-pub fn write(
+pub(crate) fn write(
     table: &[u8],
     chart: &[u16],
     count: usize,

@@ -6,7 +6,7 @@ use borrow.Author.Needs.{needs}
 use lib.ListN.{length, take, drop}
 use lib.Seq.{length-take-le}
 use Rattle.meaning.specs.Decode.{wordsOf}
-use Rattle.table.proofs.Sentence.{words-length}
+use Rattle.meaning.proofs.Words.{words-length}
 use Rattle.reader.specs.Answers.{Reading}
 use Rattle.reader.proofs.Inputs.{words-kept, prefix-there}
 use Rattle.reader.proofs.Answering.{answered-as}

@@ -4,7 +4,6 @@ use native.Mathlib.Omega.{arith}
 use borrow.Author.Needs.{needs}
 use lib.ListN.{length, take, drop, length-map}
 use lib.Seq.{length-take-le}
-use Rattle.meaning.proofs.Ends.{fine-table}
 use Rattle.sentence.specs.Nodes.{placeFor}
 use Rattle.sentence.proofs.Told.{kept-places, judge-needs, answered-at}
 use Rattle.sentence.proofs.noted.Statement.{statement}
@@ -28,7 +27,7 @@ slice-aggregate-note c = let s = c .before .before .before .before .before in sy
 note-requires : tie.Need-note-requires
 note-requires c κs =
     let s = c .before .before .before .before .before in
-    (fine-table (s .args .table .now) (s .pre .0), length-take-le _ (s .args .places .now) (s .pre .1 .1))
+    (s .pre .0, length-take-le _ (s .args .places .now) (s .pre .1 .1))
 
 slice-reshare-prefix-judge : tie.Need-slice-reshare-prefix-judge
 slice-reshare-prefix-judge c = search needs

@@ -1,6 +1,7 @@
 -- `hint::codes::reach_of` meets its contract: one law for each thing that can be asked of the first part's start.
 use borrow.Author.Needs.{needs}
-use Rattle.hint.proofs.Segments.{reach-all, reach-zero, reach-start, reach-empty}
+use native.Mathlib.Omega.{arith}
+use Rattle.hint.proofs.Segments.{reach-all, reach-zero, reach-empty}
 use Rattle.hint.proofs.codes.reach_of.Statement.{statement}
 use Rattle.hint.proofs.codes.reach_of.Tie as tie
 
@@ -22,20 +23,14 @@ add-end-2 c = search needs
 returns-2 : tie.Need-returns-2
 returns-2 c = reach-zero (c .before .before .before .args .w) (c .before .before .wide .ensures) (c .if2 .taken)
 
-add-empty : tie.Need-add-empty
-add-empty c = search needs
-
-mul-start : tie.Need-mul-start
-mul-start c = search needs
-
-add-start : tie.Need-add-start
-add-start c = search needs
-
-add-end-3 : tie.Need-add-end-3
-add-end-3 c = search needs
+reach-at-requires : tie.Need-reach-at-requires
+reach-at-requires c κs = (c .before .before .before .before .pre, record { low = omega arith; high = omega arith; some = λ e. omega arith })
 
 returns-3 : tie.Need-returns-3
-returns-3 c = reach-start (c .before .before .before .before .args .w) (c .before .before .before .wide .ensures) (c .before .before .if1 .left) (c .before .if2 .left)
+returns-3 c = c .reach-at .ensures
+
+add-empty : tie.Need-add-empty
+add-empty c = search needs
 
 returns-4 : tie.Need-returns-4
 returns-4 c = reach-empty (c .before .before .before .before .args .w) (c .before .before .before .wide .ensures) (c .before .before .if1 .left) (c .if3 .left)
@@ -50,9 +45,7 @@ reach-of-spec =
     returns
     add-end-2
     returns-2
-    add-empty
-    mul-start
-    add-start
-    add-end-3
+    reach-at-requires
     returns-3
+    add-empty
     returns-4)

@@ -21,14 +21,14 @@ abbrev μ-loop : tie.MeasureT-loop
 loop-holds : tie.Need-loop-holds Inv-loop μ-loop
 loop-holds c = (omega arith, c .before .before .before .pre .1, refl, refl)
 
-mul-find-rule : tie.Need-mul-find-rule Inv-loop μ-loop
-mul-find-rule c = search needs
+mul-place-for : tie.Need-mul-place-for Inv-loop μ-loop
+mul-place-for c = search needs
 
-shared-slice-read-find-rule : tie.Need-shared-slice-read-find-rule Inv-loop μ-loop
-shared-slice-read-find-rule c = search needs
+shared-slice-read-place-for : tie.Need-shared-slice-read-place-for Inv-loop μ-loop
+shared-slice-read-place-for c = search needs
 
-find-rule-requires : tie.Need-find-rule-requires Inv-loop μ-loop
-find-rule-requires c κs = c .before .before .before .before .before .before .pre .0
+place-for-requires : tie.Need-place-for-requires Inv-loop μ-loop
+place-for-requires c κs = c .before .before .before .before .before .before .pre .0
 
 mul-nodes : tie.Need-mul-nodes Inv-loop μ-loop
 mul-nodes c = search needs
@@ -49,7 +49,7 @@ loop-again c =
       omega arith,
       simp length-set (l .inv .1),
       simp length-set (l .inv .2),
-      note-turn (placeFor (a .table .now)) (l .nodes) (a .list .now) (l .i) _ (omega arith) (l .inv .1) (c .find-rule .ensures) (l .inv .3),
+      note-turn (placeFor (a .table .now)) (l .nodes) (a .list .now) (l .i) _ (omega arith) (l .inv .1) (c .place-for .ensures) (l .inv .3),
     )
 
 same-length : tie.Need-same-length Inv-loop μ-loop
@@ -68,9 +68,9 @@ note-spec =
     Inv-loop
     μ-loop
     loop-holds
-    mul-find-rule
-    shared-slice-read-find-rule
-    find-rule-requires
+    mul-place-for
+    shared-slice-read-place-for
+    place-for-requires
     mul-nodes
     slice-write-nodes
     add-i

@@ -13,10 +13,10 @@ use sentence::Answer as SentenceAnswer;
 use tree::TreeAnswer;
 
 // Code, place and count.
-pub struct Numbers {
-    pub code: u64,
-    pub place: usize,
-    pub count: usize,
+pub(crate) struct Numbers {
+    code: u64,
+    place: usize,
+    count: usize,
 }
 
 // A place or a count as it is handed back.
@@ -27,7 +27,7 @@ fn wide(x: usize) -> u64
 }
 
 // Writes the three numbers.
-pub fn hand_back(n: Numbers, answer: &mut [u64; 3])
+pub(crate) fn hand_back(n: Numbers, answer: &mut [u64; 3])
     ensures { λ _. ⌜ now (answer .exit) ≡ n .code ∷ n .place ∷ n .count ∷ [] ⌝ }
 {
     let place = wide(n.place);
@@ -69,7 +69,7 @@ fn written(count: usize) -> Numbers
 }
 
 // The reader's three numbers.
-pub fn of_read(a: ReadAnswer) -> Numbers
+pub(crate) fn of_read(a: ReadAnswer) -> Numbers
     ensures { λ r. ⌜ (r .code ≡ found.codeOf a) × (r .place ≡ found.placeOf a) × (r .count ≡ found.countOf a) ⌝ }
 {
     match a {
@@ -90,7 +90,7 @@ pub fn of_read(a: ReadAnswer) -> Numbers
 }
 
 // The tree writer's three numbers.
-pub fn of_tree(a: TreeAnswer) -> Numbers
+pub(crate) fn of_tree(a: TreeAnswer) -> Numbers
     ensures { λ r. ⌜ (r .code ≡ grown.codeOf a) × (r .place ≡ grown.placeOf a) × (r .count ≡ grown.countOf a) ⌝ }
 {
     match a {
@@ -103,7 +103,7 @@ pub fn of_tree(a: TreeAnswer) -> Numbers
 }
 
 // The sentence writer's three numbers.
-pub fn of_sentence(a: SentenceAnswer) -> Numbers
+pub(crate) fn of_sentence(a: SentenceAnswer) -> Numbers
     ensures { λ r. ⌜ (r .code ≡ said.codeOf a) × (r .place ≡ said.placeOf a) × (r .count ≡ said.countOf a) ⌝ }
 {
     match a {

@@ -17,7 +17,8 @@ use Rattle.meaning.proofs.Ends.{rule-end}
 use Rattle.meaning.proofs.Passing.{slice-at}
 use Rattle.meaning.proofs.Places.{rule-grows}
 use Rattle.claims.specs.Reordered.{bytesAt}
-use Rattle.claims.proofs.Windows.{Window, At, SameTop, same-top}
+use Rattle.meaning.proofs.Moved.{At}
+use Rattle.claims.proofs.Windows.{Window, SameTop, same-top}
 use Rattle.claims.proofs.Moved.{rule-same, rule-moved}
 
 -- tables with the same beginning
@@ -25,7 +26,7 @@ pub front-window : (h x y : List ℕ) → Window (h ++ x) (h ++ y) 0 0 (length h
 front-window h x y = record {
   fits = omega (arith, length-append h x);
   fits′ = omega (arith, length-append h y);
-  bytes = λ i l. List·getD-append h x 0 (0 + i) l ∙ sym (List·getD-append h y 0 (0 + i) l);
+  copied = record { bytes = λ i l. List·getD-append h x 0 (0 + i) l ∙ sym (List·getD-append h y 0 (0 + i) l) };
 }
 
 from-here : (p q : ℕ) → At p q p q
@@ -67,7 +68,7 @@ module _ (h : List ℕ) (full : 9 + byte h 5 ≡ length h) where
         record {
           fits = m;
           fits′ = omega (arith, rule-grows t at);
-          bytes = λ i l. sym (getD-append-add h (bytesAt t at) i 0 ∙ slice-at at (ruleEnd t at) t i l);
+          copied = record { bytes = λ i l. sym (getD-append-add h (bytesAt t at) i 0 ∙ slice-at at (ruleEnd t at) t i l) };
         }
 
     pub rule-taken : (s s′ : ℕ × List ℕ) → rule t s ≡ got s′ → Taken h t (s .0)
@@ -93,7 +94,7 @@ module _ (h : List ℕ) (full : 9 + byte h 5 ≡ length h) where
     set-window B pre rest e = record {
       fits = omega arith;
       fits′ = omega (arith, length-append h B, ap length e, length-append pre (B ++ rest), length-append B rest);
-      bytes = λ i l. getD-append-add h B i 0 ∙ sym (rw e (getD-append-add pre (B ++ rest) i 0 ∙ List·getD-append B rest 0 i (omega (arith, length-append h B))));
+      copied = record { bytes = λ i l. getD-append-add h B i 0 ∙ sym (rw e (getD-append-add pre (B ++ rest) i 0 ∙ List·getD-append B rest 0 i (omega (arith, length-append h B)))) };
     }
 
     rule-put : (B pre rest es : List ℕ) → Stands h B → t ≡ pre ++ (B ++ rest) → member (decode h B .function) es ≡ false

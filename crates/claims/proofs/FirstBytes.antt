@@ -95,7 +95,7 @@ check-first t = go (decLe (length t) 40000)
     go (no h) = sym (check-same (record {
       fits = omega arith;
       fits′ = omega (arith, length-take-le 40000 t (omega arith));
-      bytes = λ i l. sym (getD-take 40000 t (0 + i) 0 l);
+      copied = record { bytes = λ i l. sym (getD-take 40000 t (0 + i) 0 l) };
     }))
 
 -- an accepted table is whole in its first 40,000 bytes

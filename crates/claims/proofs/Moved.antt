@@ -13,65 +13,19 @@ use Rattle.meaning.specs.Decode.{past, several, symbolAt, rowAt, rowEnd, rowsOf
 use Rattle.meaning.proofs.Functions.{joins}
 use Rattle.meaning.proofs.Places.{past-grows, row-is, rows-are, row-grows, rule-grows}
 use Rattle.claims.proofs.Alike.{alike-got}
-use Rattle.claims.proofs.Windows.{Window, At, at-more, SameTop, RowRoom, RuleRoom, byte-same, number-same, rule-alike}
-
--- parts one after another, at two places, while I holds of how many are left and of both places
-module _ {A : Type 0} (f g : ℕ → A) (next next′ : ℕ → ℕ) (I : ℕ → ℕ → ℕ → Type 0) (one : (n a b : ℕ) → I (suc n) a b → (f a ≡ g b) × I n (next a) (next′ b)) where
-  pub several-same : (n a b : ℕ) → I n a b → several n f next a ≡ several n g next′ b
-  unfolding several
-  several-same zero a b i = refl
-  several-same (suc n) a b i = let (e, j) = one n a b i in ap₂ _∷_ e (several-same n (next a) (next′ b) j)
-
-  past-same : (n a b : ℕ) → I n a b → I 0 (past n next a) (past n next′ b)
-  unfolding past
-  past-same zero a b i = i
-  past-same (suc n) a b i = past-same n (next a) (next′ b) (one n a b i .1)
+use Rattle.meaning.proofs.Moved.{At, at-more, body-same}
+use Rattle.claims.proofs.Windows.{Window, SameTop, RowRoom, RuleRoom, byte-same, number-same, rule-alike}
 
 module _ {t u : List ℕ} {p q e : ℕ} (w : Window t u p q e) where
-  symbol-same : {at at′ : ℕ} → At p q at at′ → at + 3 ≤ e → symbolAt t at ≡ symbolAt u at′
-  unfolding symbolAt
-  symbol-same {at} {at′} a h = ap₂ (λ k n. cond (eqb k 0) (word n) (part (k - 1) (n - 1))) (byte-same w a (omega arith)) (number-same w (at-more 1 a) (omega arith))
-
-  row-same : {at at′ : ℕ} → At p q at at′ → rowEnd t at ≤ e → (rowAt t at ≡ rowAt u at′) × At p q (rowEnd t at) (rowEnd u at′)
-  unfolding rowAt
-  row-same {at} {at′} a h =
-      let n : byte t at ≡ byte u at′ = byte-same w a (omega (arith, row-is t at)) in (
-        rw (← n) (several-same (symbolAt t) (symbolAt u) (λ x. x + 3) (λ x. x + 3) (λ n a b. At p q a b × (a + 3 * n ≤ e))
-            (λ n x y (b, l). (symbol-same b (omega arith), (at-more 3 b, omega arith))) (byte t at) (at + 1) (at′ + 1) (at-more 1 a, omega (arith, row-is t at))),
-        record { from = omega (arith, row-is t at, a .from); level = omega (arith, row-is t at, row-is u at′, a .level) },
-      )
-
-  abbrev RowsLeft : ℕ → ℕ → ℕ → Type 0
-  RowsLeft n a b = At p q a b × (past n (rowEnd t) a ≤ e)
-
-  rows-left : (n a b : ℕ) → RowsLeft (suc n) a b → (rowAt t a ≡ rowAt u b) × RowsLeft n (rowEnd t a) (rowEnd u b)
-  unfolding past
-  rows-left n a b (l, h) = let (x, y) = row-same l (omega (arith, past-grows n (rowEnd t) (row-grows t) (rowEnd t a))) in (x, (y, h))
-
-  abbrev BytesLeft : ℕ → ℕ → ℕ → Type 0
-  BytesLeft n a b = At p q a b × (a + n ≤ e)
-
-  bytes-left : (n a b : ℕ) → BytesLeft (suc n) a b → (byte t a ≡ byte u b) × BytesLeft n (a + 1) (b + 1)
-  bytes-left n a b (l, h) = (byte-same w l (omega arith), (at-more 1 l, omega arith))
-
   module _ (S : SameTop t u) where
     pub rule-same : {at at′ : ℕ} → At p q at at′ → 1 ≤ categoryOf t at → categoryOf t at ≤ byte t 5 → ruleEnd t at ≤ e
         → (ruleAt t at ≡ ruleAt u at′) × At p q (ruleEnd t at) (ruleEnd u at′)
     unfolding ruleAt ruleEnd
     rule-same {at} {at′} a low high h =
+        let b = body-same (w .copied) (at-more 2 a) (λ k. S .dims (categoryOf t at) low high ∙ ap (dimensionOf u) k) h in
         let m = past-grows (dimensionOf t (categoryOf t at)) (rowEnd t) (row-grows t) (rowsOf t at) in
-        let d : BytesLeft (rankOf t at) (at + 4) (at′ + 4) = (at-more 4 a, omega (arith, rows-are t at)) in
-        let r : RowsLeft (dimensionOf t (categoryOf t at)) (past (rankOf t at) (λ x. x + 1) (at + 4)) (past (rankOf t at) (λ x. x + 1) (at′ + 4)) =
-        (past-same (byte t) (byte u) (λ x. x + 1) (λ x. x + 1) BytesLeft bytes-left (rankOf t at) (at + 4) (at′ + 4) d .0, h) in
-        let daughters = several-same (byte t) (byte u) (λ x. x + 1) (λ x. x + 1) BytesLeft bytes-left (rankOf t at) (at + 4) (at′ + 4) d in
-        let rows = several-same (rowAt t) (rowAt u) (rowEnd t) (rowEnd u) RowsLeft rows-left (dimensionOf t (categoryOf t at)) _ _ r in
         let function = number-same w a (omega (arith, rows-are t at)) in
-        let ranks : rankOf t at ≡ rankOf u at′ = byte-same w (at-more 3 a) (omega (arith, rows-are t at)) in
-        let kinds : categoryOf t at ≡ categoryOf u at′ = byte-same w (at-more 2 a) (omega (arith, rows-are t at)) in
-        rw (← ranks, ← kinds, ← S .dims (categoryOf t at) low high) (
-          λ i. record { function = function i; category = categoryOf t at; daughters = daughters i; rows = rows i },
-          past-same (rowAt t) (rowAt u) (rowEnd t) (rowEnd u) RowsLeft rows-left (dimensionOf t (categoryOf t at)) _ _ r .0,
-        )
+        (λ i. record { function = function i; category = b .category i; daughters = b .daughters i; rows = b .rows i }, b .end)
 
     -- rows and rules that end before e have room
     rows-room : RowRoom t e (λ n at. past n (rowEnd t) at ≤ e)

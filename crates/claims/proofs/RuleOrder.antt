@@ -28,7 +28,7 @@ use Rattle.meaning.proofs.Determined.{Same, same-read, same-tree, same-sentence
 use Rattle.claims.specs.Reordered.{Permuted, headBytes, bytesAt, ruleBytes, Reordered}
 use Rattle.claims.proofs.Permutation.{permuted-itself, permuted-back, permuted-length, permuted-mem, permuted-each, permuted-sorted, permuted-map}
 use Rattle.claims.proofs.Windows.{Window, at-start, byte-same, number-same, header-same, dims-same}
-use Rattle.claims.proofs.Moved.{several-same}
+use Rattle.meaning.proofs.Moved.{several-same}
 use Rattle.claims.proofs.Blocks.{front-window, Stands, decode, Taken, functionsOf, rule-taken, Put, rules-put}
 use Rattle.claims.proofs.Carry.{SameRules, same-set, turned, read-carried, tree-carried, sentence-carried}
 

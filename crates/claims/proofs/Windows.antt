@@ -16,21 +16,15 @@ use Rattle.meaning.specs.Decode.{past, rowEnd, rowsOf}
 use Rattle.meaning.proofs.Fields.{limited-there, headed}
 use Rattle.meaning.proofs.Ends.{head-more, symbol-end, row-end, category-end, In, times-past}
 use Rattle.meaning.proofs.Places.{past-one, row-is, rows-are}
+use Rattle.meaning.proofs.Moved as moved
+use Rattle.meaning.proofs.Moved.{Copied, At, at-more}
 use Rattle.claims.proofs.Alike.{Alike, both-got, alike-next, alike-test, alike-map, times-alike, Equal, alike-same}
 
--- u has from q on what t has from p up to e
+-- u has from q on what t has from p up to e, and that is within both
 pub record Window (t u : List ℕ) (p q e : ℕ) : Type 0 where
   pub fits : e ≤ length t
   pub fits′ : e + q ≤ length u + p
-  pub bytes : (i : ℕ) → p + i < e → byte t (p + i) ≡ byte u (q + i)
-
--- the place at of t and the place at′ of u correspond
-pub record At (p q at at′ : ℕ) : Type 0 where
-  pub from : p ≤ at
-  pub level : at + q ≡ at′ + p
-
-pub at-more : {p q at at′ : ℕ} (k : ℕ) → At p q at at′ → At p q (at + k) (at′ + k)
-at-more k a = record { from = omega arith; level = omega arith }
+  pub copied : Copied t u p q e
 
 -- the categories' dimensions are the same
 pub record SameTop (t u : List ℕ) : Type 0 where
@@ -77,14 +71,10 @@ symbol-read t at h = rw (le-ltb (length t) (at + 3) h)
 
 module _ {t u : List ℕ} {p q e : ℕ} (w : Window t u p q e) where
   pub byte-same : {at at′ : ℕ} → At p q at at′ → at < e → byte t at ≡ byte u at′
-  byte-same {at} {at′} a h =
-      let x : p + (at - p) ≡ at = omega arith in
-      let y : q + (at - p) ≡ at′ = omega arith in
-      rw (x, y) at (w .bytes (at - p) (omega arith))
+  byte-same a h = moved.byte-same (w .copied) a h
 
   pub number-same : {at at′ : ℕ} → At p q at at′ → at + 1 < e → number t at ≡ number u at′
-  unfolding number
-  number-same a h = ap₂ (λ x y. x + 256 * y) (byte-same a (omega arith)) (byte-same (at-more 1 a) h)
+  number-same a h = moved.number-same (w .copied) a h
 
   module _ (Q : Refusal → Refusal → Type 0) (moved : (f : ℕ → Refusal) (at at′ : ℕ) → At p q at at′ → Q (f at) (f at′)) where
     limited-alike : (low high high′ : ℕ) (f : ℕ → Refusal) {at at′ : ℕ} → high ≡ high′ → At p q at at′ → at < e

@@ -8,17 +8,11 @@ ghost use Rattle.hint.specs.State.{Low, LeastAsked};
 use crate::ANYWHERE;
 use crate::Want;
 use crate::Wants;
+use crate::codes::wide;
 use crate::order::category_of;
 use crate::passes::row_asks;
 use phrase::Daughters;
 use phrase::Item;
-
-// A height as it is asked for.
-fn wide(x: u16) -> u64
-    ensures { λ r. ⌜ r ≡ x ⌝ }
-{
-    x as u64
-}
 
 // The height of daughter k, from 0.
 fn height_of(d: Daughters, k: usize) -> u16

@@ -19,8 +19,8 @@ const OF_START: u64 = 70368744177664;
 
 const OF_END: u64 = 549755813888;
 
-// A code's category as a number that the codes are counted by.
-fn wide(x: u16) -> u64
+// A category or a height as a number that the codes are counted by.
+pub(crate) fn wide(x: u16) -> u64
     ensures { λ r. ⌜ r ≡ x ⌝ }
 {
     x as u64

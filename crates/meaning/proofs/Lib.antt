@@ -14,6 +14,7 @@ pub mod Functions
 pub mod Places
 pub mod Tally
 pub mod Decoded
+pub mod Moved
 pub mod Words
 pub mod Search
 pub mod Check

@@ -1,24 +1,20 @@
 -- Laws of the daughters that are chosen one by one: who is seated, and what leads to the goal.
 use mathlib.Core.Path.{_≡_, refl, ap, sym, subst, _∙_}
 use mathlib.Core.Logic.{_⊎_, inl, inr}
-use mathlib.Core.Bool.{true, false, cond}
 use mathlib.Core.List.{List}
-use Prim.Native.Nat.{ℕ, zero, suc, _+_, _<_, _≤_}
+use Prim.Native.Nat.{ℕ, _+_, _<_, _≤_}
 use native.Mathlib.Omega.{arith}
 use native.Mathlib.Decide.{decLt}
-use lib.Dec.{ltb}
 use borrow.Author.Tests.{lt-ltb, le-ltb}
 use Rattle.meaning.specs.Range.{Item}
-use Rattle.meaning.specs.Chart.{Known, things, tallest}
+use Rattle.meaning.specs.Chart.{Known}
 use Rattle.meaning.specs.Table.{rankOf}
-use Rattle.meaning.specs.Giving.{Gives}
-use Rattle.meaning.specs.Decode.{ruleAt, grammarOf}
 use Rattle.store.specs.Code.{knownOf}
 use Rattle.phrase.specs.declared.items.Item.{Item as CodedItem}
 use Rattle.phrase.specs.declared.items.Daughters.{Daughters}
-use Rattle.phrase.specs.Phrase.{itemOf, itemsOf, RuleOf, GivesAt}
+use Rattle.phrase.specs.Phrase.{itemOf, RuleOf, GivesAt}
 use Rattle.phrase.proofs.RuleThere.{fine}
-use Rattle.hint.specs.Hint.{seat, Open, Partial, Completes, Does}
+use Rattle.hint.specs.Hint.{seat, Open, Completes, Does}
 use Rattle.search.specs.Tried.{coded, put, noneOf}
 use Rattle.search.proofs.Choosing.{coded-full, put-same, put-other, put-count, fewer}
 use Rattle.search.proofs.Offers.{picked, topOf, things-picked, tallest-picked, completes-picked, is-picked}

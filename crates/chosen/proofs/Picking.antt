@@ -1,34 +1,32 @@
 -- The first combination that works is the chosen one: function numbers rise with the walk, and so do the sequences of places.
 use mathlib.Core.Path.{_≡_, refl, ap, sym, subst, _∙_}
-use mathlib.Core.Logic.{_⊎_, inl, inr, ⊎-elim}
+use mathlib.Core.Logic.{_⊎_, inl, inr}
 use mathlib.Core.Option.{some}
-use mathlib.Core.List.{List, [], _∷_, map, List·Memᴰ as Mem}
-use Prim.Native.Nat.{ℕ, zero, suc, _+_, _%_, _<_, _≤_, _^_}
+use mathlib.Core.List.{List, _∷_, map, List·Memᴰ as Mem}
+use Prim.Native.Nat.{ℕ, suc, _%_, _<_, _≤_, _^_}
 use native.Mathlib.Omega.{arith}
 use native.Mathlib.Decide.{decLt}
 use lib.ListN.{length, getD, getElem?, length-map}
-use Rattle.meaning.specs.Order.{Each, each-none, each-more, Lex}
+use Rattle.meaning.specs.Order.{Each, Lex}
 use Rattle.meaning.specs.Range.{Item}
 use Rattle.meaning.specs.Grammar.{Rule}
 use Rattle.meaning.specs.Giving.{Gives}
 use Rattle.meaning.specs.Table.{number, rankOf}
 use Rattle.meaning.specs.Decode.{ruleAt, ruleEnd, firstRule, grammarOf}
-use Rattle.meaning.specs.Chart.{Known, Entry, Way, Chosen, Least, Made, GivenBy, things, tallest}
+use Rattle.meaning.specs.Chart.{Known, Way, Least, Made, GivenBy, things, tallest}
 use Rattle.meaning.proofs.Theory.{Lower, mem-map, map-mem, mems-at}
-use Rattle.meaning.proofs.Order.{each-at, each-of}
+use Rattle.meaning.proofs.Order.{each-of}
 use Rattle.meaning.proofs.Charts.{deduction}
 use Rattle.meaning.proofs.Growth.{way-exists}
 use Rattle.meaning.proofs.Decoded.{several-mem, valid-grammar}
 use Rattle.meaning.proofs.Ends.{fine-table}
-use Rattle.store.specs.Set.{keyOf, heightOf}
+use Rattle.store.specs.Set.{keyOf}
 use Rattle.store.specs.Code.{unpacked, packed, knownOf}
 use Rattle.store.proofs.Laws.{at-mem}
 use Rattle.store.proofs.Packing.{unpack-pack}
 use Rattle.phrase.specs.declared.items.Item.{Item as CodedItem}
 use Rattle.phrase.specs.Phrase.{itemOf, RuleOf}
 use Rattle.phrase.proofs.RuleThere.{fine}
-use Rattle.hint.specs.Hint.{heldAs}
-use Rattle.search.specs.Search.{keyed}
 use Rattle.search.specs.Keys.{KeyMade}
 use Rattle.search.specs.Tried.{coded}
 use Rattle.search.proofs.Keys.{made-small}
@@ -39,7 +37,7 @@ use Rattle.chosen.specs.declared.walk.Walked.{Walked}
 use Rattle.chosen.specs.declared.walk.Walked.the-variants.{At, Nowhere}
 use Rattle.chosen.specs.Walk.{Works, Passed, Looking, Walking, Finds, found, nowhere}
 use Rattle.chosen.specs.Chosen.{Choosing, Chooses}
-use Rattle.chosen.proofs.Ways.{three-of, three-many, lex-three, way-works, works-way, place₁, place₂, place₃, bounded}
+use Rattle.chosen.proofs.Ways.{three-of, lex-three, way-works, works-way, place₁, place₂, place₃, bounded}
 
 module _ {t ws order K : List ℕ} {code : ℕ} (C : Choosing t ws order K code) where
   -- every item that can be made is known, at most as high

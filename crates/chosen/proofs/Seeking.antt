@@ -1,15 +1,11 @@
 -- Where a daughter is looked for: at place 0 where there is none, nowhere where nothing leads to the goal, or at the spots of what is asked.
-use mathlib.Core.Path.{_≡_, refl, ap, sym, subst, _∙_}
-use mathlib.Core.Logic.{_⊎_, inl, inr}
-use mathlib.Core.Bool.{true, false, cond}
+use mathlib.Core.Path.{_≡_, refl, sym, subst}
+use mathlib.Core.Logic.{inl, inr}
 use mathlib.Core.List.{List}
-use Prim.Native.Nat.{ℕ, zero, suc, _+_, _<_, _≤_}
+use Prim.Native.Nat.{ℕ, _<_, _≤_}
 use native.Mathlib.Omega.{arith}
-use lib.Dec.{ltb}
 use lib.ListN.{length, getD}
 use borrow.Author.Tests.{lt-ltb, le-ltb}
-use Rattle.meaning.specs.Chart.{Known}
-use Rattle.meaning.specs.Range.{Item}
 use Rattle.meaning.specs.Table.{categoryOf}
 use Rattle.meaning.specs.Decode.{ruleAt}
 use Rattle.store.specs.Code.{knownOf}
@@ -17,14 +13,13 @@ use Rattle.store.proofs.Laws.{mem-at}
 use Rattle.phrase.specs.declared.items.Item.{Item as CodedItem}
 use Rattle.phrase.specs.declared.items.Daughters.{Daughters}
 use Rattle.phrase.specs.Phrase.{itemOf}
-use Rattle.hint.specs.declared.Wants.{Wants}
-use Rattle.hint.specs.Hint.{Open, Completes, Does, Meets, Asks}
+use Rattle.hint.specs.Hint.{Open, Completes, Meets, Asks}
 use Rattle.search.specs.declared.spots.Spots.{Spots}
-use Rattle.search.specs.Spots.{Ordered, Inside}
+use Rattle.search.specs.Spots.{Ordered}
 use Rattle.search.specs.Tried.{coded, put, SpotsFor}
 use Rattle.search.proofs.Choosing.{seat-meets, seat-category}
 use Rattle.chosen.specs.declared.looking.Look.{Look}
-use Rattle.chosen.specs.Walk.{seats, taken, Leads, Seeks, Seated, Looking, Anyhow}
+use Rattle.chosen.specs.Walk.{seats, taken, Leads, Seeks, Looking, Anyhow}
 use Rattle.chosen.proofs.Leading.{taken-in, back}
 
 pub seats-in : (d : Daughters) (k : ℕ) (K : List ℕ) → k < d .count → seats d k K ≡ length K

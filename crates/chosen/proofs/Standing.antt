@@ -15,7 +15,7 @@ use Rattle.search.specs.declared.spots.Spots.{Spots}
 use Rattle.search.specs.Tried.{noneOf}
 use Rattle.chosen.specs.declared.looking.Look.{Look}
 use Rattle.chosen.specs.declared.walk.Walked.{Walked}
-use Rattle.chosen.specs.declared.walk.Walked.the-variants.{At, Nowhere}
+use Rattle.chosen.specs.declared.walk.Walked.the-variants.{Nowhere}
 use Rattle.chosen.specs.Walk.{taken, Leads, Seated, Looking, Walking, Passed, Finds, nowhere}
 use Rattle.chosen.proofs.Leading.{seated-none, seated-more}
 use Rattle.chosen.proofs.Steps.{One, Two, Three}

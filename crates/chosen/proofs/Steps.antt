@@ -1,27 +1,23 @@
 -- The steps of the nested walks: a place that is skipped leads to nothing.
-use mathlib.Core.Path.{_≡_, refl, ap, sym, subst, _∙_}
-use mathlib.Core.Logic.{_⊎_, inl, inr, ⊎-elim}
+use mathlib.Core.Path.{_≡_, ap, subst, _∙_}
+use mathlib.Core.Logic.{_⊎_, ⊎-elim}
 use mathlib.Core.List.{List}
-use Prim.Native.Nat.{ℕ, zero, suc, _+_, _-_, _<_, _≤_, _^_}
+use Prim.Native.Nat.{ℕ, _+_, _-_, _<_, _≤_}
 use native.Mathlib.Omega.{arith}
 use native.Mathlib.Decide.{decLt}
 use lib.ListN.{length, getD}
 use Rattle.meaning.specs.Table.{rankOf}
-use Rattle.store.specs.Code.{knownOf}
-use Rattle.store.proofs.Laws.{mem-at}
 use Rattle.phrase.specs.declared.items.Item.{Item as CodedItem}
 use Rattle.phrase.specs.declared.items.Daughters.{Daughters}
 use Rattle.phrase.specs.Phrase.{RuleOf}
 use Rattle.phrase.proofs.RuleThere.{fine}
-use Rattle.hint.specs.declared.Wants.{Wants}
-use Rattle.hint.specs.Hint.{Open, Meets}
 use Rattle.search.specs.declared.spots.Spots.{Spots}
 use Rattle.search.specs.Spots.{Ordered, Inside, Skips}
 use Rattle.search.specs.Tried.{noneOf}
 use Rattle.search.proofs.Ruling.{open-none}
 use Rattle.chosen.specs.declared.looking.Look.{Look}
-use Rattle.chosen.specs.Walk.{seats, taken, Leads, Seeks, Seated, Looking, Walking, zeroth, first, second, third, Works, Works₀, Works₁, Works₂, Passed}
-use Rattle.chosen.proofs.Leading.{taken-count, open-later, back, seated-none, seated-more}
+use Rattle.chosen.specs.Walk.{taken, Leads, Seeks, zeroth, first, second, third, Works, Works₀, Works₁, Works₂, Passed}
+use Rattle.chosen.proofs.Leading.{taken-count, open-later, back}
 
 -- a walk over spots that have every place of which W holds
 module _ (W : ℕ → Type 0) (s : Spots) (has : (p : ℕ) → W p → Inside s p) where

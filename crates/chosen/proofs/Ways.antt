@@ -1,36 +1,29 @@
 -- What the walk finds is the chosen function and daughters: a combination that works is a way to the item, and every way works.
 use mathlib.Core.Path.{_≡_, refl, ap, sym, subst, _∙_}
-use mathlib.Core.Logic.{_⊎_, inl, inr, ⊎-elim}
-use mathlib.Core.Option.{Option, none, some}
-use mathlib.Core.List.{List, [], _∷_, map, List·Memᴰ as Mem}
-use Prim.Native.Nat.{ℕ, zero, suc, _+_, _<_, _≤_}
+use mathlib.Core.Logic.{_⊎_, inl, inr}
+use mathlib.Core.Option.{some}
+use mathlib.Core.List.{List, [], _∷_, map}
+use Prim.Native.Nat.{ℕ, zero, suc, _<_, _≤_}
 use native.Mathlib.Omega.{arith}
 use native.Mathlib.Decide.{decLt}
-use lib.ListN.{length, getD, getElem?, take, length-map, List·getD-map}
-use lib.Dec.{ltb}
+use lib.ListN.{length, getD, getElem?, take, length-map}
 use lib.Seq.{getD-take}
-use Rattle.meaning.specs.Order.{Each, each-none, each-more, Lex}
+use Rattle.meaning.specs.Order.{Lex}
 use Rattle.meaning.specs.Range.{Item}
-use Rattle.meaning.specs.Grammar.{Rule}
 use Rattle.meaning.specs.Giving.{Gives}
-use Rattle.meaning.specs.Table.{got, checkTable, number, rankOf}
-use Rattle.meaning.specs.Decode.{past, several, ruleAt, ruleEnd, firstRule, grammarOf}
-use Rattle.meaning.specs.Chart.{Known, Way, Chosen, Least, Made, GivenBy, things, tallest}
-use Rattle.meaning.proofs.Decoded.{several-mem}
-use Rattle.meaning.proofs.Ends.{fine-table}
-use Rattle.table.specs.Walk.{Ranked, placeOf}
-use Rattle.store.specs.Set.{keyOf, heightOf}
-use Rattle.store.specs.Code.{unpacked, packed, knownOf}
+use Rattle.meaning.specs.Table.{number, rankOf}
+use Rattle.meaning.specs.Decode.{ruleAt, grammarOf}
+use Rattle.meaning.specs.Chart.{Known, Way, GivenBy, things, tallest}
+use Rattle.store.specs.Code.{knownOf}
 use Rattle.store.proofs.Laws.{mem-at}
 use Rattle.phrase.specs.declared.items.Item.{Item as CodedItem}
 use Rattle.phrase.specs.declared.items.Daughters.{Daughters}
-use Rattle.phrase.specs.Phrase.{itemOf, RuleOf}
-use Rattle.phrase.proofs.RuleThere.{fine}
-use Rattle.hint.specs.Hint.{seat, Open, heldAs, unknown, Completes, Does}
-use Rattle.search.specs.Tried.{coded, put, noneOf}
+use Rattle.phrase.specs.Phrase.{itemOf}
+use Rattle.hint.specs.Hint.{seat, Open, heldAs, unknown, Completes}
+use Rattle.search.specs.Tried.{coded}
 use Rattle.search.proofs.Choosing.{coded-known, coded-full, further}
-use Rattle.search.proofs.Ruling.{open-none, full-size}
-use Rattle.chosen.specs.Walk.{seats, taken, Leads, Works, Passed, Looking, Walking, zeroth, first, second, third}
+use Rattle.search.proofs.Ruling.{open-none}
+use Rattle.chosen.specs.Walk.{seats, taken, Works, Looking, zeroth, first, second, third}
 use Rattle.chosen.proofs.Leading.{taken-in, taken-out, taken-count, taken-other, taken-same, open-later}
 use Rattle.chosen.proofs.Seeking.{seats-in, seats-out}
 

@@ -1,20 +1,18 @@
 -- A rule's bytes say the same wherever they stand. Where u has from q on the bytes that t has from p up to e, and the same dimensions, a rule
 -- of t that ends before e is decoded from u as the same rule (`rule-same`), and if it was read from t without a refusal so it is from u
 -- (`rule-moved`).
-use Prim.Native.Nat.{ℕ, zero, suc, _+_, _*_, _-_, _≤_}
-use mathlib.Core.Path.{_≡_, refl, sym, ap, ap₂, _∙_}
-use mathlib.Core.Bool.{false, cond}
+use Prim.Native.Nat.{ℕ, _-_, _≤_}
+use mathlib.Core.Path.{_≡_, sym, ap, _∙_}
+use mathlib.Core.Bool.{false}
 use mathlib.Core.List.{List, _∷_}
 use native.Mathlib.Omega.{arith}
-use lib.Dec.{eqb}
-use Rattle.meaning.specs.Table.{got, member, byte, number, rankOf, categoryOf, dimensionOf, rule}
-use Rattle.meaning.specs.Grammar.{word, part}
-use Rattle.meaning.specs.Decode.{past, several, symbolAt, rowAt, rowEnd, rowsOf, ruleAt, ruleEnd}
+use Rattle.meaning.specs.Table.{got, member, byte, number, categoryOf, dimensionOf, rule}
+use Rattle.meaning.specs.Decode.{past, rowEnd, rowsOf, ruleAt, ruleEnd}
 use Rattle.meaning.proofs.Functions.{joins}
 use Rattle.meaning.proofs.Places.{past-grows, row-is, rows-are, row-grows, rule-grows}
 use Rattle.claims.proofs.Alike.{alike-got}
 use Rattle.meaning.proofs.Moved.{At, at-more, body-same}
-use Rattle.claims.proofs.Windows.{Window, SameTop, RowRoom, RuleRoom, byte-same, number-same, rule-alike}
+use Rattle.claims.proofs.Windows.{Window, SameTop, RowRoom, RuleRoom, number-same, rule-alike}
 
 module _ {t u : List ℕ} {p q e : ℕ} (w : Window t u p q e) where
   module _ (S : SameTop t u) where

@@ -1,26 +1,24 @@
 -- What passes the tree writer's check holds only true items, and the tree that is written from a record makes its item. Every chart made by
 -- the reader passes, and a tree written from it has the fewest levels of any tree of its phrase.
 -- The main statements: `passed-true`, `written-tree`, `reader-passes`, `reader-not-bad`, `fewest-levels`.
-use mathlib.Core.Path.{_≡_, refl, sym, ap, _∙_, subst}
+use mathlib.Core.Path.{_≡_, refl, sym, _∙_, subst}
 use mathlib.Core.Logic.{inl, inr}
-use mathlib.Core.Option.{some}
 use mathlib.Core.List.{List}
-use Prim.Native.Nat.{ℕ, zero, suc, _+_, _*_, _-_, _≤_, _<_}
+use Prim.Native.Nat.{ℕ, _*_, _-_, _≤_, _<_}
 use native.Mathlib.Omega.{arith}
-use lib.ListN.{length, getElem?, take, drop, replicate}
+use lib.ListN.{length, take, drop, replicate}
 use lib.Seq.{take-at}
 use Rattle.meaning.specs.Table.{got}
-use Rattle.meaning.specs.Decode.{past, several, grammarOf, wordsOf, checkInput}
+use Rattle.meaning.specs.Decode.{grammarOf, wordsOf, checkInput}
 use Rattle.meaning.specs.Order.{Each}
 use Rattle.meaning.specs.Range.{Item}
 use Rattle.meaning.specs.Grammar.{Grammar, Tree, levels, functions}
 use Rattle.meaning.specs.Giving.{Makes, True}
-use Rattle.meaning.specs.Chart.{Known, Entry, Way, Made, GivenBy, ChartOf, knowns, records}
+use Rattle.meaning.specs.Chart.{Known, Entry, Way, Made, GivenBy, ChartOf, knowns}
 use Rattle.meaning.specs.Reading.{room, laid, Read, bad-input, full, deep, read}
 use Rattle.meaning.specs.TreeWriting.{statedAt, entryAt, lent, TooMany, Passes, blank, nodes, TreeWritten, too-many, bad-record, no-place, no-room, wrote}
 use Rattle.meaning.specs.TreeWriting as tree
 use Rattle.meaning.proofs.Order.{each-at, each-of, each-map}
-use Rattle.meaning.proofs.Decoded.{several-mem}
 use Rattle.meaning.proofs.Passing.{getD-mem, known-is, shows, passes}
 use Rattle.meaning.proofs.Lending.{entry-at, entry-of}
 use Rattle.meaning.proofs.Writer.{written}

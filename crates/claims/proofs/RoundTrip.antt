@@ -9,8 +9,7 @@ use Prim.Native.Nat.{ℕ, zero, suc, _+_, _-_, _*_, _/_, _%_, _≤_, _<_}
 use native.Mathlib.Omega.{arith}
 use lib.ListN.{length, getD, getElem?, take, drop, replicate, length-take}
 use lib.Seq.{take-at}
-use Rattle.meaning.specs.declared.Refusal.{Refusal}
-use Rattle.meaning.specs.Table.{Got, got, refused, number, checkTable}
+use Rattle.meaning.specs.Table.{got, number, checkTable}
 use Rattle.meaning.specs.Decode.{grammarOf, wordsOf, checkInput}
 use Rattle.meaning.specs.Range.{Item}
 use Rattle.meaning.specs.Grammar.{Grammar, Tree}

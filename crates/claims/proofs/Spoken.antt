@@ -9,14 +9,14 @@ use native.Mathlib.Decide.{decLt}
 use lib.Dec.{eqb}
 use lib.ListN.{length, getD, List·getD-map}
 use borrow.Author.Tests.{eqb-true, le-ltb, ne-eqb}
-use Rattle.meaning.specs.Table.{got, refused, times, byte, number, categoryOf, dimensionOf, checkTable}
+use Rattle.meaning.specs.Table.{got, times, byte, number, categoryOf, dimensionOf, checkTable}
 use Rattle.meaning.specs.Decode.{past, several, symbolAt, rowAt, rowEnd, rowsOf, ruleAt, ruleEnd, firstRule, grammarOf, wordsOf, wordThere, checkWords, checkInput}
 use Rattle.meaning.specs.Accepted.{FineRow, FineRule}
 use Rattle.meaning.specs.Order.{Each, each-none, each-more}
 use Rattle.meaning.specs.Grammar.{Symbol, word, part, Rule, Tree, node, Trees, bare, and, Of, of, OfAll, of-none, of-more, said, row, spell, spells}
 use Rattle.meaning.proofs.Order.{each-of}
 use Rattle.meaning.proofs.Ends.{fine-table}
-use Rattle.meaning.proofs.Decoded.{several-length, several-at, several-past, several-mem}
+use Rattle.meaning.proofs.Decoded.{several-at, several-past, several-mem}
 use Rattle.meaning.proofs.Words.{words-length, word-at}
 
 -- a symbol that is a word is not 0

@@ -6,11 +6,10 @@ use mathlib.Core.List.{List}
 use Prim.Native.Nat.{ℕ, zero, suc, _+_, _*_, _-_, _<_}
 use native.Mathlib.Omega.{arith}
 use Rattle.meaning.specs.Range.{Range, none}
-use Rattle.meaning.specs.Grammar.{Symbol, word, part}
+use Rattle.meaning.specs.Grammar.{Symbol, part}
 use Rattle.meaning.specs.Giving.{Run, done, more, Stands}
 use Rattle.meaning.specs.Decode.{several, symbolAt}
 use Rattle.meaning.proofs.Joining.{Join, left, right, next, none-join, join-none, joined→join}
-use Rattle.meaning.proofs.Spans.{word-at}
 use Rattle.phrase.proofs.Joins.{Proper, Fold, stop, onto}
 use Rattle.phrase.proofs.Runs.{stands-proper}
 use Rattle.phrase.specs.declared.items.Daughters.{Daughters}

@@ -1,15 +1,15 @@
 -- A sentence has one chart, and a saturated list is it: the theory of charts at a grammar's laws.
 -- Assumes nothing.
 use mathlib.Core.Path.{_≡_, refl, sym, ap, _∙_}
-use mathlib.Core.List.{List, [], _∷_, map}
+use mathlib.Core.List.{List, [], _∷_}
 use Prim.Native.Nat.{ℕ, suc, _<_}
 use native.Mathlib.Omega.{arith}
 use lib.ListN.{length, getD, length-map}
 use lib.Seq.{take-length}
 use Rattle.meaning.specs.Order.{Each, each-none, each-more, Sorted, sorted-none, sorted-more}
 use Rattle.meaning.specs.Range.{Item, numbers}
-use Rattle.meaning.specs.Grammar.{Rule, Grammar, Tree, node, Trees, bare, and, levels, most, spell}
-use Rattle.meaning.specs.Giving.{Makes, True, MakeAll, make-none, make-more, Gives}
+use Rattle.meaning.specs.Grammar.{Grammar, Tree, node, Trees, bare, and, levels, most, spell}
+use Rattle.meaning.specs.Giving.{Makes, True, MakeAll, make-none, make-more}
 use Rattle.meaning.specs.Valid.{Valid}
 use Rattle.meaning.specs.Chart.{Known, Entry, tallest, Before, Made, GivenBy, ChartOf, item, things, item-of, items}
 use Rattle.meaning.specs.Reading.{Over, goal}

@@ -1,6 +1,6 @@
 -- A test of charts that computes: what passes is the chart of the sentence.
 -- Assumes nothing.
-use mathlib.Core.Path.{_≡_, refl, sym, ap, _∙_, subst}
+use mathlib.Core.Path.{_≡_, ap}
 use mathlib.Core.Bool.{Bool, true, false, _&&_, not}
 use mathlib.Core.Option.{Option, none, some}
 use mathlib.Core.List.{List, [], _∷_, map, List·Memᴰ as Mem}
@@ -8,15 +8,14 @@ use Prim.Native.Nat.{ℕ, zero, suc, _≤_}
 use native.Mathlib.Omega.{arith}
 use lib.Dec.{T, leb, eqb, leb→le, eqb→eq, eqb-refl, T-not}
 use lib.ListN.{getElem?}
-use Rattle.meaning.specs.Order.{Each, each-none, each-more, Sorted, sorted-none, sorted-more, Lex}
-use Rattle.meaning.specs.Range.{Range, Item, numbers}
+use Rattle.meaning.specs.Order.{Each, Sorted, sorted-none, sorted-more, Lex}
+use Rattle.meaning.specs.Range.{Item, numbers}
 use Rattle.meaning.specs.Grammar.{Rule, Grammar}
 use Rattle.meaning.specs.Giving.{Gives, categories}
-use Rattle.meaning.specs.Valid.{Valid, Linear}
+use Rattle.meaning.specs.Valid.{Valid}
 use Rattle.meaning.specs.Chart.{Known, Entry, tallest, Way, Before, GivenBy, ChartOf, things, knowns, items}
 use Rattle.meaning.specs.Reading.{goal, Verdict, yes-at, no-goal}
 use Rattle.meaning.proofs.Order.{each-at, each-map}
-use Rattle.meaning.proofs.Theory.{Saturated}
 use Rattle.meaning.proofs.Charts.{chart-of}
 use Rattle.meaning.proofs.Tests.{both, implies, modus, all, all-each, any, any-some, eqs, eqs→eq, eqs-refl, lexb, lexb→lex, lex→lexb}
 use Rattle.meaning.proofs.Search.{outcomes, mem-outcomes, outcomes-mem, tuples, mem-tuples, tuples-mem}

@@ -3,25 +3,24 @@ use Prim.Native.Nat.{ℕ, zero, suc, _+_, _-_, _≤_, _<_}
 use mathlib.Core.Path.{_≡_, refl, sym, ap, _∙_, subst}
 use mathlib.Core.Logic.{_⊎_, inl, inr}
 use mathlib.Core.Bool.{Bool, true, false, not, cond, _||_}
-use mathlib.Core.List.{List, [], _∷_, map, List·Memᴰ as Mem, List·Memᴰ·head as here, List·Memᴰ·tail as there, List·Memᴰ·cases-cons as mem-cons, List·Memᴰ·not-nil as not-mem-nil}
+use mathlib.Core.List.{List, [], map, List·Memᴰ as Mem, List·Memᴰ·head as here, List·Memᴰ·tail as there, List·Memᴰ·cases-cons as mem-cons, List·Memᴰ·not-nil as not-mem-nil}
 use native.Mathlib.Omega.{arith}
 use native.Mathlib.Decide.{decLt}
-use native.Mathlib.Nat.{add-zero}
 use lib.ListN.{length, getD, List·getD-eq-default}
-use lib.Dec.{ltb, eqb}
-use borrow.Author.Tests.{eqb-true, eqb-false, not-false}
+use lib.Dec.{eqb}
+use borrow.Author.Tests.{eqb-false, not-false}
 use Rattle.meaning.specs.Order.{Each, each-none, each-more, Sorted, sorted-none, sorted-more}
-use Rattle.meaning.specs.Grammar.{word as say, part as use-of, Rule, Symbol, Grammar, dimension as dimension-in}
-use Rattle.meaning.specs.Valid.{symbol as symbol-of, Linear, Valid as ValidGrammar}
-use Rattle.meaning.specs.Table.{Got, got, refused, times, any, byte, number, Used, unused, missing, header, dimension, rankOf, categoryOf, daughterOf, dimensionOf, rule, rules, checkTable}
+use Rattle.meaning.specs.Grammar.{word as say, part as use-of, Rule, Symbol, dimension as dimension-in}
+use Rattle.meaning.specs.Valid.{Linear, Valid as ValidGrammar}
+use Rattle.meaning.specs.Table.{got, times, any, byte, number, unused, missing, header, dimension, rankOf, categoryOf, daughterOf, dimensionOf, rule, rules, checkTable}
 use Rattle.meaning.specs.Decode.{past, several, symbolAt, rowAt, rowEnd, rowsOf, ruleAt, ruleEnd, firstRule, grammarOf}
-use Rattle.meaning.specs.Accepted.{Means, FineRow}
+use Rattle.meaning.specs.Accepted.{FineRow}
 use Rattle.meaning.specs.Accepted.{FineRule, FineTable}
-use Rattle.meaning.proofs.Fields.{after, both, same}
+use Rattle.meaning.proofs.Fields.{after, both}
 use Rattle.meaning.proofs.Ends.{times-past, rule-end, first-there, fine-table}
-use Rattle.meaning.proofs.Places.{past-one, past-three, dim-most}
+use Rattle.meaning.proofs.Places.{past-one, dim-most}
 use Rattle.meaning.proofs.Functions.{functions-differ}
-use Rattle.meaning.proofs.Tally.{Tallies, one-place-all, comes-all, Whole, rule-whole}
+use Rattle.meaning.proofs.Tally.{one-place-all, comes-all, Whole, rule-whole}
 
 -- several parts, one by one
 module _ {A : Type 0} (f : ℕ → A) (next : ℕ → ℕ) where

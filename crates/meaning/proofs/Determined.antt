@@ -1,9 +1,8 @@
 -- Any two results that the three calls' definitions allow are equal: code, place, count and the whole slice.
 use mathlib.Core.Path.{_≡_, refl, sym, ap, _∙_, subst}
-use mathlib.Core.Logic.{_⊎_, inl, inr}
-use mathlib.Core.Option.{Option, none, some, Option·none-ne-some}
-use mathlib.Core.List.{List, [], _∷_, _++_, map, List·Memᴰ as Mem, List·Memᴰ·head as here}
-use Prim.Native.Nat.{ℕ, zero, suc, _+_, _*_, _/_, _≤_, _<_, min}
+use mathlib.Core.Option.{some}
+use mathlib.Core.List.{List, _++_}
+use Prim.Native.Nat.{ℕ, zero, suc, _+_, _/_, _≤_, _<_}
 use native.Mathlib.Omega.{arith}
 use native.Mathlib.Decide.{decLt}
 use lib.Dec.{ltb}
@@ -13,12 +12,12 @@ use Rattle.meaning.specs.declared.Refusal.{Refusal}
 use Rattle.meaning.specs.Refusals.{codeOf, placeOf}
 use Rattle.meaning.specs.Table.{Got, got, refused, _>>_, checkTable}
 use Rattle.meaning.specs.Decode.{grammarOf, wordsOf, checkWords, checkInput}
-use Rattle.meaning.specs.Order.{Each, each-none, each-more, Sorted, sorted-none, sorted-more}
+use Rattle.meaning.specs.Order.{Sorted, sorted-none, sorted-more}
 use Rattle.meaning.specs.Range.{Item}
 use Rattle.meaning.specs.Grammar.{Grammar, Tree}
 use Rattle.meaning.specs.Valid.{Valid}
-use Rattle.meaning.specs.Chart.{Known, Entry, Least, ChartOf, Made, Before, items, item-of}
-use Rattle.meaning.specs.Reading.{allowed, room, goal, Over, Deep, Verdict, yes-at, no-goal, laid, Read, bad-input, full, deep, read}
+use Rattle.meaning.specs.Chart.{Entry, ChartOf, Made, Before, items, item-of}
+use Rattle.meaning.specs.Reading.{allowed, room, Over, Deep, Verdict, yes-at, no-goal, laid, Read, bad-input, full, deep, read}
 use Rattle.meaning.specs.TreeWriting as tree
 use Rattle.meaning.specs.SentenceWriting.{fault, Reads, words, SentenceWritten, bad-table, too-many, wrong, no-room, wrote}
 use Rattle.meaning.proofs.Fields.{after}

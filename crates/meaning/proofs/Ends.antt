@@ -2,18 +2,18 @@
 use Prim.Native.Nat.{ℕ, zero, suc, _+_, _-_, _≤_, _<_}
 use mathlib.Core.Path.{_≡_, refl, sym, ap, _∙_, subst}
 use mathlib.Core.Bool.{Bool, true, false, not, cond}
-use mathlib.Core.List.{List, [], _∷_}
+use mathlib.Core.List.{List, []}
 use native.Mathlib.Omega.{arith}
 use lib.ListN.{length}
 use lib.Dec.{ltb, eqb}
 use borrow.Author.Tests.{ltb-false, eqb-true, eqb-false, not-false}
 use Rattle.meaning.specs.declared.Refusal.{Refusal}
 use Rattle.meaning.specs.declared.Refusal.the-variants.{Range, Category}
-use Rattle.meaning.specs.Table.{Got, got, refused, _>>=_, _>>_, refuse-if, times, member, byte, number, byteField, numberField, symbolField, dimension, category, rank, Used, unused, word, part, symbol, row, missing, rankOf, categoryOf, daughterOf, dimensionOf, outside, ruleHead, ruleBody, rule, rules, header, checkTable}
+use Rattle.meaning.specs.Table.{Got, got, refused, _>>_, refuse-if, times, member, byte, number, byteField, numberField, symbolField, dimension, category, rank, Used, unused, word, part, symbol, row, missing, rankOf, categoryOf, daughterOf, dimensionOf, outside, ruleHead, ruleBody, rule, rules, header, checkTable}
 use Rattle.meaning.specs.Decode.{past, rowEnd, rowsOf, ruleEnd, firstRule}
-use Rattle.meaning.specs.Accepted.{Headed, FineRow, FineSymbol, Means}
+use Rattle.meaning.specs.Accepted.{FineRow, FineSymbol, Means}
 use Rattle.meaning.specs.Accepted.{FineRule, FineTable}
-use Rattle.meaning.proofs.Fields.{after, both, same, byte-there, number-there, limited-there, header-there, headed, inside}
+use Rattle.meaning.proofs.Fields.{after, both, same, byte-there, limited-there, header-there, headed, inside}
 
 -- parts one after another: the last ends after all, and each has what one has
 module _ {S : Type 0} (place : S → ℕ) (next : ℕ → ℕ) (P : ℕ → Type 0) (f : S → Got S)

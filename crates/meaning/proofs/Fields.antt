@@ -2,15 +2,14 @@
 use Prim.Native.Nat.{ℕ, zero, suc, _+_, _-_, _≤_, _<_}
 use mathlib.Core.Path.{_≡_, refl, sym, ap, _∙_, subst}
 use mathlib.Core.Bool.{Bool, true, false, not, _||_}
-use mathlib.Core.List.{List, [], _∷_}
+use mathlib.Core.List.{List}
 use native.Mathlib.Omega.{arith}
-use native.Mathlib.Numerals.{add-one}
 use lib.ListN.{length}
 use lib.Dec.{ltb, eqb}
 use borrow.Author.Tests.{ltb-false}
 use Rattle.meaning.specs.declared.Refusal.{Refusal}
-use Rattle.meaning.specs.declared.Refusal.the-variants.{Range, Category}
-use Rattle.meaning.specs.Table.{Got, got, refused, _>>=_, _>>_, refuse-if, times, any, member, outside, byte, number, byteField, numberField, symbolField, limited, dimension, category, rank, Used, rankOf, daughterOf, dimensionOf, ruleHead, limits, header}
+use Rattle.meaning.specs.declared.Refusal.the-variants.{Range}
+use Rattle.meaning.specs.Table.{Got, got, refused, _>>=_, _>>_, refuse-if, times, member, outside, byte, number, byteField, numberField, symbolField, limited, dimension, category, rank, ruleHead, limits, header}
 use Rattle.meaning.specs.Accepted.{Dims, Headed}
 
 -- a test that was passed failed, and the rest was read

@@ -1,15 +1,15 @@
 -- The rules of a table that is not refused have different function numbers.
-use Prim.Native.Nat.{ℕ, zero, suc, _+_, _≤_, _<_}
+use Prim.Native.Nat.{ℕ, zero, suc, _+_, _<_}
 use mathlib.Core.Path.{_≡_, refl, sym, ap, _∙_, subst}
-use mathlib.Core.Bool.{Bool, true, false, not, _||_, or-true}
+use mathlib.Core.Bool.{Bool, true, false, not, or-true}
 use mathlib.Core.List.{List, [], _∷_}
 use native.Mathlib.Omega.{arith}
 use lib.ListN.{length}
 use lib.Dec.{ltb, eqb}
 use borrow.Author.Tests.{eq-eqb}
-use Rattle.meaning.specs.Table.{Got, got, refused, times, member, byte, number, numberField, dimension, dimensionOf, header, ruleHead, ruleBody, rule, rules, checkTable}
+use Rattle.meaning.specs.Table.{got, times, member, byte, number, numberField, dimension, dimensionOf, header, ruleHead, ruleBody, rule, rules, checkTable}
 use Rattle.meaning.specs.Decode.{past, ruleEnd, firstRule}
-use Rattle.meaning.proofs.Fields.{after, both, same, header-there, limited-there}
+use Rattle.meaning.proofs.Fields.{after, both, same}
 use Rattle.meaning.proofs.Ends.{rule-end, first-there}
 
 -- a rule's number is none of those before it, and joins them

@@ -1,8 +1,7 @@
 -- Joining as a relation: the three ways in which two ranges join, and that `joined` says no more and no less.
 use mathlib.Core.Path.{_≡_, refl, sym, ap, _∙_}
-use mathlib.Core.Bool.{Bool, true, false, cond, _&&_}
+use mathlib.Core.Bool.{Bool, true, false, cond}
 use mathlib.Core.Option.{Option, none as apart, some as just, Option·none-ne-some}
-use Prim.Native.Nat.{ℕ}
 use lib.Dec.{T, eqb, eqb→eq, eqb-refl}
 use Rattle.meaning.specs.Range.{Range, none, isNone, joined}
 use Rattle.meaning.proofs.Tests.{both}

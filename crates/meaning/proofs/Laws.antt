@@ -1,13 +1,13 @@
 -- The two laws that join the meaning of a grammar to its charts: a rule gives only what a tree makes, and what a tree makes its root's rule gives.
 -- Assumes nothing.
-use mathlib.Core.Path.{_≡_, refl, sym, ap, _∙_, subst, fun-ext}
-use mathlib.Core.List.{List, [], _∷_, _++_, map, List·Memᴰ as Mem}
+use mathlib.Core.Path.{_≡_, refl, sym, ap, _∙_, subst}
+use mathlib.Core.List.{List, [], _∷_, List·Memᴰ as Mem}
 use Prim.Native.Nat.{ℕ, zero, suc, _≤_, _<_}
 use native.Mathlib.Decide.{decLt}
 use native.Mathlib.Omega.{arith}
 use lib.ListN.{length, getD, length-map, List·getD-map, List·getD-eq-default}
 use Rattle.meaning.specs.Range.{Range, none, Spans, Item, nothing, at, Counts}
-use Rattle.meaning.specs.Grammar.{Symbol, word, part, Rule, Grammar, Tree, node, Trees, bare, and, Of, of, OfAll, of-none, of-more, said, row, spell, spells, dimension}
+use Rattle.meaning.specs.Grammar.{Symbol, word, part, Rule, Grammar, Tree, node, Trees, Of, of, OfAll, of-none, of-more, said, row, spell, spells, dimension}
 use Rattle.meaning.specs.Giving.{Makes, MakeAll, make-none, make-more, Run, done, more, Stands, held, Gives, categories}
 use Rattle.meaning.specs.Valid.{symbol, Linear, Valid}
 use Rattle.meaning.proofs.Joining.{join→joined, joined→join}

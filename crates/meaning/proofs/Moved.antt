@@ -1,7 +1,7 @@
 -- A rule's bytes say the same wherever they stand: where u has from q on the bytes that t has from p up to e, the category, daughters and rows
 -- of a rule that ends before e are decoded from both alike (`body-same`).
 use Prim.Native.Nat.{ℕ, zero, suc, _+_, _*_, _-_, _≤_, _<_}
-use mathlib.Core.Path.{_≡_, refl, sym, ap, ap₂, _∙_}
+use mathlib.Core.Path.{_≡_, refl, ap₂}
 use mathlib.Core.Bool.{cond}
 use mathlib.Core.List.{List, _∷_}
 use native.Mathlib.Omega.{arith}

@@ -1,7 +1,7 @@
 -- A list of function numbers is read as one tree at most.
 -- Assumes nothing.
-use mathlib.Core.Path.{_≡_, refl, sym, ap, _∙_}
-use mathlib.Core.List.{List, [], _∷_, _++_, append-assoc, List·Memᴰ as Mem, head-eq-of-cons-eq, tail-eq-of-cons-eq}
+use mathlib.Core.Path.{_≡_, refl, sym, _∙_}
+use mathlib.Core.List.{List, _++_, append-assoc, head-eq-of-cons-eq, tail-eq-of-cons-eq}
 use Prim.Native.Nat.{ℕ}
 use Rattle.meaning.specs.Grammar.{Rule, Grammar, Tree, node, Trees, bare, and, Of, of, OfAll, of-none, of-more, functions, preorder}
 use Rattle.meaning.specs.Valid.{Valid}

@@ -1,17 +1,15 @@
 -- A list of entries and its records: what is shown is read back, and a list whose entries are ways, in order, passes the tree writer's check.
-use mathlib.Core.Path.{_≡_, refl, sym, ap, _∙_, subst}
-use mathlib.Core.Logic.{_⊎_, inl, inr}
-use mathlib.Core.Option.{Option, none, some}
+use mathlib.Core.Path.{_≡_, refl, sym, ap, _∙_}
+use mathlib.Core.Logic.{inl, inr}
+use mathlib.Core.Option.{some}
 use mathlib.Core.List.{List, [], _∷_, _++_, map, List·Memᴰ as Mem, List·Memᴰ·head as here, List·Memᴰ·tail as there}
-use Prim.Native.Nat.{ℕ, zero, suc, _+_, _*_, _-_, _/_, _≤_, _<_, min}
+use Prim.Native.Nat.{ℕ, zero, suc, _+_, _*_, _-_, _≤_, _<_}
 use native.Mathlib.Omega.{arith}
-use native.Mathlib.Decide.{decLt}
-use lib.ListN.{length, getD, getElem?, take, drop, length-take, length-drop, length-append, length-map, List·getD-append, List·getD-map}
+use lib.ListN.{length, getD, getElem?, take, length-take, length-append, length-map, List·getD-append, List·getD-map}
 use lib.Seq.{slice, length-slice, getD-take, getD-drop, ext-getD, getD-append-add}
-use Rattle.meaning.specs.Order.{Each, each-none, each-more, Sorted, sorted-none, sorted-more}
-use Rattle.meaning.specs.Range.{Range, Item}
+use Rattle.meaning.specs.Order.{Each, Sorted, sorted-none, sorted-more}
+use Rattle.meaning.specs.Range.{Item}
 use Rattle.meaning.specs.Grammar.{Rule, Grammar}
-use Rattle.meaning.specs.Giving.{Gives, categories}
 use Rattle.meaning.specs.Valid.{Valid}
 use Rattle.meaning.specs.Chart.{Known, Entry, Way, knowns, items, things, item-of, Before, GivenBy, shown, records}
 use Rattle.meaning.specs.Decode.{past, several}

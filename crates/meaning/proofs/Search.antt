@@ -1,18 +1,18 @@
 -- All that a rule gives, as lists that compute.
 -- Assumes nothing.
-use mathlib.Core.Path.{_≡_, refl, sym, ap, _∙_, subst}
+use mathlib.Core.Path.{_≡_, refl, sym, ap}
 use mathlib.Core.Logic.{_⊎_, inl, inr}
 use mathlib.Core.Bool.{Bool, _&&_, _||_}
 use mathlib.Core.Option.{Option, none as none?, some, Option·none-ne-some}
-use mathlib.Core.List.{List, [], _∷_, _++_, map, List·Memᴰ as Mem, List·Memᴰ·head as here, List·Memᴰ·tail as there, List·Memᴰ·append-cases as append-mem, List·Memᴰ·eq-of-singleton as mem-one, List·Memᴰ·not-nil as not-mem-nil, Memᴰ·append-left as mem-left, Memᴰ·append-right as mem-right, nil≢cons, cons≢nil}
-use Prim.Native.Nat.{ℕ, zero, suc, _+_, _≤_, _<_}
+use mathlib.Core.List.{List, [], _∷_, map, List·Memᴰ as Mem, List·Memᴰ·head as here, List·Memᴰ·tail as there, List·Memᴰ·eq-of-singleton as mem-one, List·Memᴰ·not-nil as not-mem-nil, nil≢cons, cons≢nil}
+use Prim.Native.Nat.{ℕ, zero, suc, _≤_}
 use native.Mathlib.Omega.{arith}
 use lib.Dec.{T, eqb, leb, ltb, eqb→eq, eqb-refl, ltb→lt, lt→ltb, leb→le, le→leb}
 use lib.ListN.{length, getD, getElem?, List·getD-eq-default}
 use Rattle.meaning.specs.Range.{Range, none, IsRange, Spans, Item, at, isNone, joined}
 use Rattle.meaning.specs.Grammar.{Symbol, word, part, Rule, Grammar}
 use Rattle.meaning.specs.Giving.{Run, done, more, Stands, held, Gives, categories}
-use Rattle.meaning.specs.Chart.{Known, things, items}
+use Rattle.meaning.specs.Chart.{Known, things}
 use Rattle.meaning.proofs.Joining.{range-path, isNone→, →isNone}
 use Rattle.meaning.proofs.Spans.{one-word, word-at}
 use Rattle.meaning.proofs.Laws.{counts-all}

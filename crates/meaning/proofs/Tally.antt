@@ -1,19 +1,19 @@
 -- The use marks of a rule that is not refused: each constituent that its rows name was marked once, and each mark is of one.
-use Prim.Native.Nat.{ℕ, zero, suc, _+_, _-_, _≤_, _<_}
+use Prim.Native.Nat.{ℕ, zero, suc, _+_, _-_}
 use mathlib.Core.Path.{_≡_, refl, sym, ap, _∙_, subst}
 use mathlib.Core.Logic.{_⊎_, inl, inr}
-use mathlib.Core.Bool.{Bool, true, false, not, cond, _||_, _&&_, or-true}
-use mathlib.Core.List.{List, [], _∷_, List·Memᴰ as Mem, List·Memᴰ·head as here, List·Memᴰ·tail as there, List·Memᴰ·cases-cons as mem-cons, List·Memᴰ·not-nil as not-mem-nil}
+use mathlib.Core.Bool.{Bool, true, false, cond, _||_, _&&_, or-true}
+use mathlib.Core.List.{List, [], _∷_}
 use native.Mathlib.Omega.{arith}
-use lib.ListN.{length, getD, List·getD-eq-default}
+use lib.ListN.{length, getD}
 use lib.Dec.{ltb, eqb}
-use borrow.Author.Tests.{eqb-true, eqb-false, eq-eqb}
-use Rattle.meaning.specs.Grammar.{word as say, part as use-of, Rule, Symbol}
-use Rattle.meaning.specs.Table.{Got, got, refused, _>>=_, _>>_, refuse-if, times, any, outside, byte, number, byteField, symbolField, Used, unused, mark, word, part, symbol, row, missing, rankOf, categoryOf, daughterOf, dimensionOf, category, ruleHead, ruleBody, rule}
-use Rattle.meaning.specs.Decode.{past, several, symbolAt, rowAt, rowEnd, rowsOf, ruleAt, ruleEnd}
+use borrow.Author.Tests.{eqb-true, eq-eqb}
+use Rattle.meaning.specs.Grammar.{word as say, part as use-of, Symbol}
+use Rattle.meaning.specs.Table.{got, _>>_, times, outside, byte, byteField, symbolField, Used, unused, mark, word, part, symbol, row, missing, rankOf, categoryOf, daughterOf, dimensionOf, category, ruleHead, ruleBody, rule}
+use Rattle.meaning.specs.Decode.{several, symbolAt, rowAt, rowEnd, rowsOf}
 use Rattle.meaning.specs.declared.Refusal.the-variants.{Range}
-use Rattle.meaning.proofs.Fields.{after, both, same, byte-there, headed, limited-there}
-use Rattle.meaning.proofs.Ends.{times-past, category-end, In, symbol-end, row-end, rule-end}
+use Rattle.meaning.proofs.Fields.{after, both, same, byte-there, headed}
+use Rattle.meaning.proofs.Ends.{times-past, category-end, In, symbol-end, row-end}
 
 clash : (b : Bool) → b ≡ true → b ≡ false → ⊥
 clash b e f = let z : _≡_ {A = ℕ} 0 1 = cc in omega arith

@@ -1,27 +1,24 @@
 -- The worked cases: a test of a case that the prover computes, the law that what passes it holds, and the one theorem over the table of cases.
-use mathlib.Core.Path.{_≡_, refl, sym, ap, _∙_, subst, subst₂}
-use mathlib.Core.Bool.{Bool, true, false, _&&_, _||_, not, cond}
+use mathlib.Core.Path.{_≡_, refl, sym, subst₂}
+use mathlib.Core.Bool.{Bool, true, false, _&&_, cond}
 use mathlib.Core.Option.{Option, none, some}
-use mathlib.Core.List.{List, [], _∷_, _++_, map}
-use Prim.Native.Nat.{ℕ, zero, suc, _+_, _*_, _-_, _/_, _≤_, _<_, min}
-use native.Mathlib.Omega.{arith}
+use mathlib.Core.List.{List, [], _++_}
+use Prim.Native.Nat.{ℕ, _+_, _-_, _/_, _<_}
 use lib.Dec.{T, leb, ltb, eqb, leb→le, ltb→lt, eqb→eq}
-use lib.ListN.{length, drop, replicate}
-use Rattle.meaning.specs.declared.Refusal.{Refusal}
+use lib.ListN.{length, drop}
 use Rattle.meaning.specs.Refusals.{codeOf, placeOf}
-use Rattle.meaning.specs.Table.{Got, got, refused, _>>=_, _>>_, refuse-if, times, any, member, outside, byte, number, byteField, numberField, symbolField, header, limits, limited, unused, mark, word, part, symbol, row, missing, ruleHead, ruleBody, rule, rules, checkTable}
+use Rattle.meaning.specs.Table.{Got, got, refused, times, any, member, outside, number, byteField, numberField, symbolField, header, limits, limited, unused, mark, word, part, symbol, row, missing, ruleHead, ruleBody, rule, rules, checkTable}
 use Rattle.meaning.specs.Decode.{past, several, symbolAt, rowAt, rowEnd, ruleAt, ruleEnd, grammarOf, wordsOf, wordThere, checkWords, checkInput}
 use Rattle.meaning.specs.Order.{Each}
 use Rattle.meaning.specs.Range.{Item, joined, numbers}
-use Rattle.meaning.specs.Grammar.{Grammar}
-use Rattle.meaning.specs.Chart.{Entry, tallest, ChartOf, shown, records}
-use Rattle.meaning.specs.Reading.{allowed, room, Verdict, laid, cleared, Read, bad-input, full, read}
+use Rattle.meaning.specs.Chart.{Entry, tallest, shown, records}
+use Rattle.meaning.specs.Reading.{allowed, room, laid, cleared, Read, bad-input, full, read}
 use Rattle.meaning.specs.TreeWriting.{named, statedAt, entryAt, lent, told, nodes, treeRoom, Passes, TreeWritten}
 use Rattle.meaning.specs.TreeWriting as tree
 use Rattle.meaning.specs.SentenceWriting.{walk, fault, SentenceWritten, wrong}
 use Rattle.meaning.specs.Worked.{Call, reader, tree-writer, sentence-writer, Case, Answers, Holds, cases}
-use Rattle.meaning.proofs.Order.{each-at, each-map}
-use Rattle.meaning.proofs.Tests.{both, all, all-each, eqs, eqs→eq}
+use Rattle.meaning.proofs.Order.{each-map}
+use Rattle.meaning.proofs.Tests.{both, all-each, eqs, eqs→eq}
 use Rattle.meaning.proofs.Charts.{over}
 use Rattle.meaning.proofs.Check.{check, checked, verdictb, verdict}
 use Rattle.meaning.proofs.Passing.{passes}

@@ -1,15 +1,13 @@
 -- Yes exactly when some tree of the start category spells the whole sentence.
-use mathlib.Core.Path.{_≡_, refl, sym, ap, _∙_, subst}
-use mathlib.Core.Logic.{_⊎_, inl, inr}
-use mathlib.Core.Option.{Option, some}
+use mathlib.Core.Path.{_≡_, refl, sym, _∙_, subst}
+use mathlib.Core.Logic.{inl, inr}
 use mathlib.Core.List.{List, [], _∷_, List·Memᴰ as Mem}
-use Prim.Native.Nat.{ℕ, zero, suc, _≤_, _<_}
+use Prim.Native.Nat.{ℕ, zero, suc, _≤_}
 use native.Mathlib.Omega.{arith}
-use lib.ListN.{length, getD, getElem?, List·getD-eq-default}
+use lib.ListN.{length, getD, List·getD-eq-default}
 use lib.Seq.{take-length}
-use Rattle.meaning.specs.Table.{got}
-use Rattle.meaning.specs.Decode.{grammarOf, wordsOf, checkInput}
-use Rattle.meaning.specs.Range.{none, IsRange, Spans, Item, at}
+use Rattle.meaning.specs.Decode.{grammarOf, wordsOf}
+use Rattle.meaning.specs.Range.{IsRange, Spans, Item, at}
 use Rattle.meaning.specs.Grammar.{Grammar, Tree, Of, spell, levels}
 use Rattle.meaning.specs.Giving.{Makes}
 use Rattle.meaning.specs.Valid.{Valid}

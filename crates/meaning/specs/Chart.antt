@@ -1,7 +1,7 @@
 -- Charts: document 01, 'Phrases' (height, chosen rule and daughters) and 'The chart'. First over any items A, what is made at a
 -- number of levels, and what a function number gives from daughters; then for a sentence.
 use mathlib.Core.Path.{_≡_}
-use mathlib.Core.Option.{Option, some as just}
+use mathlib.Core.Option.{some as just}
 use mathlib.Core.List.{List, [], _∷_, _++_, map, List·Memᴰ as Mem}
 use Prim.Native.Nat.{ℕ, suc, _≤_, max}
 use lib.ListN.{getElem?, getD}

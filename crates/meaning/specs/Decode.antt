@@ -7,7 +7,7 @@ use lib.ListN.{length}
 use lib.Dec.{eqb, ltb}
 use Rattle.meaning.specs.declared.Refusal.the-variants.{Long, Odd, ZeroWord}
 use Rattle.meaning.specs.Grammar.{Symbol, word, part, Rule, Grammar}
-use Rattle.meaning.specs.Table.{Got, got, _>>=_, _>>_, refuse-if, times, byte, number, dimensionOf, categoryOf, rankOf, checkTable}
+use Rattle.meaning.specs.Table.{Got, got, _>>_, refuse-if, times, byte, number, dimensionOf, categoryOf, rankOf, checkTable}
 
 -- the place after n parts, each of which ends where `next` says
 unfoldable pub past : ℕ → (ℕ → ℕ) → ℕ → ℕ

@@ -1,7 +1,7 @@
 -- What the reader answers: document 01, 'The chart' and 'Numbers handed back'.
 use mathlib.Core.Path.{_≡_}
 use mathlib.Core.Option.{some as just}
-use mathlib.Core.List.{List, [], _∷_, _++_, List·Memᴰ as Mem}
+use mathlib.Core.List.{List, _++_, List·Memᴰ as Mem}
 use Prim.Native.Nat.{ℕ, zero, suc, _*_, _-_, _/_, _≤_, _<_, min}
 use lib.ListN.{length, replicate, getElem?}
 use Rattle.meaning.specs.declared.Refusal.{Refusal}

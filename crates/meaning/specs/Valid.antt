@@ -1,6 +1,6 @@
 -- What the grammar of an accepted table has: a statement that is proved, and that nobody has to believe.
 use mathlib.Core.Path.{_≡_}
-use mathlib.Core.List.{List, [], map, List·Memᴰ as Mem}
+use mathlib.Core.List.{[], map, List·Memᴰ as Mem}
 use Prim.Native.Nat.{ℕ, _≤_, _<_}
 use lib.ListN.{length, getD}
 use Rattle.meaning.specs.Order.{Sorted}

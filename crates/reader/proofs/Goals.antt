@@ -8,7 +8,7 @@ use lib.ListN.{length, getD, getElem?}
 use Rattle.meaning.specs.Range.{Item}
 use Rattle.meaning.specs.Table.{got, byte, checkTable}
 use Rattle.meaning.specs.Decode.{grammarOf}
-use Rattle.meaning.specs.Chart.{Entry, knowns, items, item, item-of}
+use Rattle.meaning.specs.Chart.{Entry, knowns}
 use Rattle.meaning.specs.Reading.{goal, Verdict, yes-at, no-goal}
 use Rattle.meaning.proofs.Ends.{fine-table}
 use Rattle.meaning.proofs.Theory.{map-mem}

@@ -3,13 +3,10 @@ use mathlib.Core.Path.{_≡_, refl, ap, _∙_}
 use mathlib.Core.List.{List, _++_}
 use Prim.Native.Nat.{ℕ, zero, suc, _/_, _<_, _≤_, min}
 use native.Mathlib.Omega.{arith}
-use borrow.Author.Tests.{ltb-false}
-use lib.Dec.{ltb}
 use lib.ListN.{length, getD, take, drop, length-take}
 use lib.Seq.{getD-take, length-take-le, take-at}
-use Rattle.meaning.specs.Table.{Got, got, refused, _>>_, checkTable}
-use Rattle.meaning.specs.declared.Refusal.the-variants.{Long}
-use Rattle.meaning.specs.Decode.{wordsOf, checkWords, checkInput}
+use Rattle.meaning.specs.Table.{got, checkTable}
+use Rattle.meaning.specs.Decode.{wordsOf, checkInput}
 use Rattle.meaning.specs.Reading.{allowed}
 use Rattle.meaning.proofs.Determined.{words-few}
 use Rattle.meaning.proofs.Ends.{fine-table}

@@ -1,24 +1,20 @@
 -- Laws of trying a rule: a daughter that is not chosen is one of the set, and where all are chosen the rows say what is given.
 use mathlib.Core.Path.{_≡_, refl, ap, sym, subst, _∙_}
 use mathlib.Core.Logic.{_⊎_, inl, inr, ⊎-elim}
-use mathlib.Core.Bool.{Bool, true, false, cond, _&&_}
-use mathlib.Core.List.{List, [], _∷_, map, List·Memᴰ as Mem}
-use Prim.Native.Nat.{ℕ, zero, suc, _+_, _-_, _*_, _/_, _%_, _<_, _≤_, _^_}
+use mathlib.Core.List.{List, List·Memᴰ as Mem}
+use Prim.Native.Nat.{ℕ, zero, suc, _+_, _-_, _<_, _≤_}
 use native.Mathlib.Omega.{arith}
 use native.Mathlib.Decide.{decLt}
-use lib.Dec.{ltb, eqb}
 use lib.ListN.{length, getD, take, List·getD-map}
 use borrow.Author.Tests.{lt-ltb, le-ltb, eq-eqb, ne-eqb}
-use Rattle.meaning.specs.Order.{Each, each-none, each-more}
-use Rattle.meaning.specs.Range.{Range, Item, nothing}
-use Rattle.meaning.specs.Chart.{Known, things, tallest}
-use Rattle.meaning.proofs.Order.{each-at, each-of}
+use Rattle.meaning.specs.Range.{Item, nothing}
+use Rattle.meaning.specs.Chart.{Known, things}
+use Rattle.meaning.proofs.Order.{each-at}
 use Rattle.meaning.proofs.Passing.{getD-mem}
-use Rattle.store.specs.Set.{keyOf, heightOf}
 use Rattle.store.specs.Code.{unpacked, knownOf}
 use Rattle.phrase.specs.declared.items.Item.{Item as CodedItem}
 use Rattle.phrase.specs.declared.items.Daughters.{Daughters}
-use Rattle.phrase.specs.Phrase.{itemOf, itemsOf, RuleOf}
+use Rattle.phrase.specs.Phrase.{itemOf, RuleOf}
 use Rattle.phrase.proofs.RuleThere.{fine, head-in, wanted-there}
 use Rattle.meaning.specs.Table.{byte, rankOf, categoryOf}
 use Rattle.meaning.proofs.Ends.{fine-table}
@@ -27,10 +23,10 @@ use Rattle.hint.specs.declared.Reach.{Reach}
 use Rattle.hint.specs.declared.Turn.{Turn}
 use Rattle.hint.specs.declared.Turn.the-variants.{Daughter, Done}
 use Rattle.search.specs.declared.spots.Spots.{Spots}
-use Rattle.search.specs.Spots.{Ordered, Inside, Finds, Skips}
+use Rattle.search.specs.Spots.{Inside, Finds, Skips}
 use Rattle.meaning.specs.Decode.{ruleAt}
 use Rattle.hint.specs.declared.Wants.{Wants}
-use Rattle.hint.specs.Hint.{seat, Open, heldAs, unknown, Partial, Completes, Does, Meets, Asks, Reaches, Turns, next-is, all-chosen}
+use Rattle.hint.specs.Hint.{seat, Open, heldAs, unknown, Completes, Does, Meets, Asks, Reaches, Turns, next-is, all-chosen}
 use Rattle.search.specs.Level.{Ready, Filled, Some}
 use Rattle.store.proofs.Laws.{mem-at}
 use Rattle.search.proofs.Filling.{same, jump, loop-begins, loop-ends, loop-turns, loop-stops}

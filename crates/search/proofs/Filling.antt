@@ -1,16 +1,16 @@
 -- Laws of adding to a level.
-use mathlib.Core.Path.{_≡_, refl, ap, sym, subst, _∙_}
+use mathlib.Core.Path.{_≡_, refl, sym, subst, _∙_}
 use mathlib.Core.Logic.{_⊎_, inl, inr, ⊎-elim}
-use mathlib.Core.List.{List, [], _∷_, _++_, List·Memᴰ as Mem, List·Memᴰ·not-nil as not-mem-nil, List·Memᴰ·append-cases as append-mem, List·Memᴰ·eq-of-singleton as mem-one, Memᴰ·append-left as mem-left, Memᴰ·append-right as mem-right}
+use mathlib.Core.List.{List, [], _∷_, List·Memᴰ as Mem, List·Memᴰ·not-nil as not-mem-nil, List·Memᴰ·append-cases as append-mem, List·Memᴰ·eq-of-singleton as mem-one, Memᴰ·append-left as mem-left, Memᴰ·append-right as mem-right}
 use mathlib.Core.List.List·Memᴰ.{List·Memᴰ·head as here, List·Memᴰ·tail as there}
-use Prim.Native.Nat.{ℕ, zero, suc, _+_, _-_, _*_, _/_, _%_, _<_, _≤_, _^_}
+use Prim.Native.Nat.{ℕ, zero, suc, _+_, _-_, _*_, _/_, _<_, _≤_}
 use native.Mathlib.Omega.{arith}
 use lib.ListN.{length, getD, take, length-take}
-use Rattle.store.specs.Set.{Sorted, place, keyOf, heightOf, Held, Put, placed, no-room}
+use Rattle.store.specs.Set.{place, Held, Put, placed, no-room}
 use lib.Seq.{getD-take}
 use Rattle.store.proofs.Laws.{place-sorted, place-from, place-keeps, place-has, mem-at, at-mem, lt-or-ge}
 use Rattle.store.proofs.Sets.{next, take-mem, take-all, longer}
-use Rattle.search.specs.Level.{New, Adds, Ready, Filled, kept, over, Some, Either, Span}
+use Rattle.search.specs.Level.{New, Ready, Filled, kept, over, Some, Either, Span}
 
 new-as : {K : List ℕ} {h : ℕ} {S T : ℕ → Type 0} {c : ℕ} → ((x : ℕ) → S x → T x) → New K h S c → New K h T c
 new-as f w = record { of = f _ (w .of); high = w .high; unknown = w .unknown }

@@ -1,18 +1,16 @@
 -- Keys are items: what is true in a sentence of at most 64 words packs, and the two laws of giving hold of keys.
-use mathlib.Core.Path.{_≡_, refl, ap, sym, subst, _∙_}
-use mathlib.Core.Logic.{_⊎_, inl, inr}
+use mathlib.Core.Path.{_≡_, refl, ap, sym, _∙_}
+use mathlib.Core.Logic.{inl, inr}
 use mathlib.Core.List.{List, [], _∷_, map, List·Memᴰ as Mem}
-use Prim.Native.Nat.{ℕ, zero, suc, _+_, _*_, _<_, _≤_}
+use Prim.Native.Nat.{ℕ, suc, _<_, _≤_}
 use native.Mathlib.Omega.{arith}
-use lib.ListN.{length, getD}
+use lib.ListN.{length}
 use Rattle.meaning.specs.Order.{Each, each-none, each-more}
-use Rattle.meaning.specs.Range.{Range, none, IsRange, Spans, Item, at}
-use Rattle.meaning.specs.Grammar.{Rule, Grammar, Tree, node, Of, of}
-use Rattle.meaning.specs.Giving.{Makes}
+use Rattle.meaning.specs.Range.{Range, IsRange, Item, at}
+use Rattle.meaning.specs.Grammar.{Rule, Tree, Of, of}
 use Rattle.meaning.specs.Chart.{Known, things, tallest, Made, GivenBy}
-use Rattle.meaning.specs.Table.{got, byte, number, checkTable}
-use Rattle.meaning.specs.Decode.{past, ruleAt, ruleEnd, firstRule, grammarOf}
-use Rattle.meaning.proofs.Order.{each-at, each-map}
+use Rattle.meaning.specs.Table.{got, number, checkTable}
+use Rattle.meaning.specs.Decode.{ruleAt, ruleEnd, firstRule, grammarOf}
 use Rattle.meaning.proofs.Theory.{Deduction}
 use Rattle.meaning.proofs.Charts.{deduction}
 use Rattle.meaning.proofs.Ends.{fine-table}

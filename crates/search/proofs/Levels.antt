@@ -1,13 +1,13 @@
 -- From exact sets one level makes exactly the next, and where nothing is new all is there. Over any rules of deduction on keys.
-use mathlib.Core.Path.{_≡_, refl, ap, sym, subst, _∙_}
+use mathlib.Core.Path.{_≡_, refl, ap, _∙_}
 use mathlib.Core.Logic.{_⊎_, inl, inr, ⊎-elim}
-use mathlib.Core.List.{List, [], _∷_, _++_, map, List·Memᴰ as Mem, List·Memᴰ·not-nil as not-mem-nil, List·Memᴰ·head as here, List·Memᴰ·tail as there}
-use Prim.Native.Nat.{ℕ, zero, suc, _+_, _*_, _<_, _≤_}
+use mathlib.Core.List.{List, [], _∷_, map, List·Memᴰ as Mem, List·Memᴰ·not-nil as not-mem-nil, List·Memᴰ·head as here, List·Memᴰ·tail as there}
+use Prim.Native.Nat.{ℕ, zero, suc, _+_, _<_, _≤_}
 use native.Mathlib.Omega.{arith}
 use lib.ListN.{length}
 use Rattle.meaning.specs.Order.{Each, each-none, each-more, sorted-none, sorted-more}
 use Rattle.meaning.specs.Chart.{Known, things, tallest, Least}
-use Rattle.meaning.proofs.Order.{each-at, each-of, each-map}
+use Rattle.meaning.proofs.Order.{each-at, each-of}
 use Rattle.meaning.proofs.Theory.{Deduction, bounded}
 use Rattle.store.specs.Set.{Sorted, keyOf, heightOf, Held, Merged, place, gather}
 use Rattle.store.proofs.Laws.{lt-or-ge, place-from, gather-sorted, gather-from}

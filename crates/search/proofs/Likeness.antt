@@ -1,19 +1,17 @@
 -- Rules that are equal but for their function numbers give the same items (`tried-like`), so one that is like an earlier one gives nothing
 -- new (`like-old`).
-use Prim.Native.Nat.{ℕ, zero, suc, _+_, _*_, _-_, _≤_, _<_}
-use mathlib.Core.Path.{_≡_, refl, sym, ap, ap₂, _∙_, subst}
-use mathlib.Core.Bool.{cond}
+use Prim.Native.Nat.{ℕ, _+_, _-_, _≤_, _<_}
+use mathlib.Core.Path.{_≡_, refl, sym, ap, _∙_, subst}
 use mathlib.Core.Logic.{⊎-elim}
-use mathlib.Core.List.{List, [], _∷_, List·Memᴰ as Mem}
+use mathlib.Core.List.{List, [], List·Memᴰ as Mem}
 use native.Mathlib.Omega.{arith}
 use lib.ListN.{length, getD}
-use lib.Dec.{eqb}
-use Rattle.meaning.specs.Table.{got, checkTable, byte, number, rankOf, categoryOf, dimensionOf}
+use Rattle.meaning.specs.Table.{got, checkTable, byte, number, rankOf, dimensionOf}
 use Rattle.meaning.specs.Range.{Item, at}
-use Rattle.meaning.specs.Grammar.{Symbol, word, part}
+use Rattle.meaning.specs.Grammar.{Symbol}
 use Rattle.meaning.specs.Giving.{Run, Stands, held, Gives}
-use Rattle.meaning.specs.Decode.{past, several, symbolAt, rowAt, rowEnd, rowsOf, ruleAt, ruleEnd, firstRule, grammarOf}
-use Rattle.meaning.proofs.Places.{past-grows, row-is, rows-are, row-grows, rule-grows, table-most}
+use Rattle.meaning.specs.Decode.{ruleAt, ruleEnd, firstRule, grammarOf}
+use Rattle.meaning.proofs.Places.{rule-grows, table-most}
 use Rattle.meaning.proofs.Decoded.{mem-several}
 use Rattle.meaning.proofs.Moved.{Copied, Body, body-same}
 use Rattle.store.proofs.Laws.{lt-or-ge}

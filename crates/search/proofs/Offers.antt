@@ -1,9 +1,9 @@
 -- A rule whose daughters are all chosen: the ranges of its rows, one after another, are the keys that it gives.
 use mathlib.Core.Path.{_≡_, refl, ap, sym, subst, _∙_}
 use mathlib.Core.Logic.{_⊎_, inl, inr, ⊎-elim}
-use mathlib.Core.Option.{Option, none as apart, some as just}
-use mathlib.Core.List.{List, [], _∷_, map, List·Memᴰ as Mem}
-use Prim.Native.Nat.{ℕ, zero, suc, _+_, _-_, _*_, _<_, _≤_, max}
+use mathlib.Core.Option.{none as apart, some as just}
+use mathlib.Core.List.{List, [], _∷_, map}
+use Prim.Native.Nat.{ℕ, zero, suc, _+_, _-_, _<_, _≤_, max}
 use native.Mathlib.Omega.{arith}
 use lib.ListN.{length, getD, take, length-take}
 use lib.Seq.{ext-getD, getD-take}
@@ -12,11 +12,10 @@ use Rattle.meaning.specs.Range.{Range, Item, at}
 use Rattle.meaning.specs.Grammar.{Symbol}
 use Rattle.meaning.specs.Giving.{Gives, categories}
 use Rattle.meaning.specs.Chart.{Known, things, tallest}
-use Rattle.meaning.specs.Table.{categoryOf, rankOf}
+use Rattle.meaning.specs.Table.{categoryOf}
 use Rattle.meaning.specs.Decode.{ruleAt, grammarOf}
-use Rattle.meaning.proofs.Order.{each-of}
 use Rattle.store.proofs.Laws.{lt-or-ge}
-use Rattle.store.specs.Code.{unpacked, packed, knownOf, Small}
+use Rattle.store.specs.Code.{unpacked, packed, Small}
 use Rattle.store.proofs.Packing.{unpack-pack, same-key}
 use Rattle.phrase.specs.declared.items.Item.{Item as CodedItem}
 use Rattle.phrase.specs.declared.items.Daughters.{Daughters}
@@ -24,13 +23,13 @@ use Rattle.phrase.specs.declared.rows.Row.{Row}
 use Rattle.phrase.specs.declared.ranges.Range.{Range as CodedRange}
 use Rattle.phrase.specs.declared.ranges.Join.{Join as JoinAnswer}
 use Rattle.phrase.specs.declared.ranges.Join.the-variants.{Joined, Apart}
-use Rattle.phrase.specs.Phrase.{rangeOf, joinOf, symbolsOf, itemOf, itemsOf, heldOf, RuleOf, rowOf, Has, Next, found, over, startOf}
+use Rattle.phrase.specs.Phrase.{rangeOf, joinOf, symbolsOf, itemsOf, heldOf, RuleOf, Has, Next, found, over, startOf}
 use Rattle.phrase.proofs.Fit.{has-in}
 use Rattle.phrase.proofs.Runs.{run-once}
 use Rattle.phrase.proofs.RuleThere.{give-item}
 use Rattle.hint.specs.Hint.{seat, Open, heldAs, unknown, Partial, Completes, Does}
 use Rattle.search.specs.Level.{Ready, Filled}
-use Rattle.search.specs.Tried.{In, Tried, Trying, Ranged, Offered, Short}
+use Rattle.search.specs.Tried.{Tried, Trying, Ranged, Offered, Short}
 use Rattle.search.proofs.Choosing.{rule-kind}
 use Rattle.search.proofs.Filling.{then, stop, same, nothing-yet}
 

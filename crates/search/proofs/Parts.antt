@@ -1,5 +1,5 @@
 -- Laws of two parts of a sorted set: where they stand, and what is skipped between them.
-use mathlib.Core.Path.{_≡_, refl, sym}
+use mathlib.Core.Path.{_≡_}
 use mathlib.Core.Logic.{_⊎_, inl, inr, ⊎-elim}
 use mathlib.Core.List.{List}
 use Prim.Native.Nat.{ℕ, _+_, _<_, _≤_}
@@ -8,7 +8,7 @@ use lib.ListN.{length, getD}
 use Rattle.store.specs.Set.{Lower, Within}
 use Rattle.store.proofs.Laws.{lt-or-ge}
 use Rattle.search.specs.declared.spots.Spots.{Spots}
-use Rattle.search.specs.Spots.{Ordered, Inside, Finds, Skips}
+use Rattle.search.specs.Spots.{Ordered, Finds, Skips}
 
 module _ {K : List ℕ} {low high lo hi : ℕ} (u : Lower K low lo) (v : Lower K high hi) where
   pub lower-rise : low ≤ high → lo ≤ hi

@@ -2,32 +2,30 @@
 use mathlib.Core.Path.{_≡_, refl, ap, sym, subst, _∙_}
 use mathlib.Core.Logic.{_⊎_, inl, inr, ⊎-elim}
 use mathlib.Core.List.{List, [], _∷_, map, List·Memᴰ as Mem}
-use Prim.Native.Nat.{ℕ, zero, suc, _+_, _*_, _%_, _<_, _≤_, _^_, max}
+use Prim.Native.Nat.{ℕ, zero, suc, _+_, _<_, _≤_, _^_, max}
 use native.Mathlib.Omega.{arith}
-use lib.ListN.{length, getD, length-map}
+use lib.ListN.{length, length-map}
 use Rattle.meaning.specs.Order.{Each, each-none, each-more, sorted-none}
 use Rattle.meaning.specs.Range.{Item}
 use Rattle.meaning.specs.Grammar.{Rule}
 use Rattle.meaning.specs.Giving.{Gives}
-use Rattle.meaning.specs.Chart.{Known, things, tallest, Least, GivenBy, Made}
-use Rattle.meaning.specs.Table.{got, checkTable, byte, number, rankOf, categoryOf}
-use Rattle.meaning.specs.Decode.{past, several, ruleAt, ruleEnd, firstRule, grammarOf}
+use Rattle.meaning.specs.Chart.{Known, things, tallest, Least, GivenBy}
+use Rattle.meaning.specs.Table.{got, checkTable, byte, number, rankOf}
+use Rattle.meaning.specs.Decode.{past, ruleAt, ruleEnd, firstRule, grammarOf}
 use Rattle.meaning.proofs.Ends.{fine-table, past-suc}
 use Rattle.meaning.proofs.Decoded.{several-mem, several-length}
 use Rattle.store.specs.Set.{keyOf, heightOf}
-use Rattle.store.specs.Code.{unpacked, packed, knownOf}
+use Rattle.store.specs.Code.{unpacked, knownOf}
 use Rattle.store.proofs.Laws.{lt-or-ge}
 use Rattle.store.proofs.Packing.{key-small, pack-unpack}
-use Rattle.phrase.specs.declared.items.Item.{Item as CodedItem}
-use Rattle.phrase.specs.declared.items.Daughters.{Daughters}
 use Rattle.phrase.specs.Phrase.{RuleOf}
-use Rattle.hint.specs.Hint.{seat, Open, heldAs, unknown, Partial, Completes, Does}
+use Rattle.hint.specs.Hint.{seat, Open}
 use Rattle.search.specs.Level.{Ready, Filled}
-use Rattle.search.specs.Search.{keyed, Exact, Level}
+use Rattle.search.specs.Search.{keyed, Level}
 use Rattle.search.specs.Keys.{KeyMade, KeyGiven, Asked}
 use Rattle.search.specs.Tried.{In, Tried, Trying, opens, blankItem, noneOf, ByRules}
 use Rattle.search.proofs.Keys.{made-category, made-small}
-use Rattle.search.proofs.Filling.{goes-on, nothing-yet, then, stop, same}
+use Rattle.search.proofs.Filling.{nothing-yet, then, stop, same}
 
 -- codes as known items
 knowns-of : List ℕ → List (Known Item)

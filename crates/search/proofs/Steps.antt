@@ -1,15 +1,14 @@
 -- A level in arrays, and the search's turns.
 use mathlib.Core.Path.{_≡_, refl, ap, sym, subst, _∙_}
-use mathlib.Core.Logic.{_⊎_, inl, inr, ⊎-elim}
-use mathlib.Core.List.{List, [], _∷_, _++_, List·Memᴰ as Mem}
-use Prim.Native.Nat.{ℕ, zero, suc, _+_, _-_, _<_, _≤_}
+use mathlib.Core.List.{List, [], _++_, List·Memᴰ as Mem}
+use Prim.Native.Nat.{ℕ, _+_, _-_, _<_, _≤_}
 use native.Mathlib.Omega.{arith}
-use lib.ListN.{length, getD, take, drop}
+use lib.ListN.{length, take, drop}
 use lib.Seq.{length-take-le, take-take, take-at, take-append-le}
 use Rattle.meaning.proofs.Theory.{Deduction}
 use Rattle.store.specs.Set.{Sorted, Merged}
 use Rattle.search.specs.Level.{Adds, Filled, kept, over}
-use Rattle.search.specs.Search.{Exact, All, More, Level, Found, all, full, Begun, Advanced, on, done, beyond}
+use Rattle.search.specs.Search.{Exact, Level, Found, all, full, Begun, Advanced, on, done, beyond}
 use Rattle.search.proofs.Levels.{exact-none, next-level, ended, apart, too-many}
 
 module _ {Mk : ℕ → ℕ → Type 0} {Gv : ℕ → List ℕ → ℕ → Type 0} (D : Deduction Mk Gv) where

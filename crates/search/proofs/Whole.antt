@@ -1,8 +1,8 @@
 -- What the search finds is the chart's items: all of them in chart order with their heights, or more than there is room for.
 use mathlib.Core.Path.{_≡_, refl, ap, sym, subst, _∙_}
-use mathlib.Core.Logic.{_⊎_, inl, inr, ⊎-elim}
-use mathlib.Core.List.{List, [], _∷_, map, List·Memᴰ as Mem, List·Memᴰ·head as here, List·Memᴰ·tail as there}
-use Prim.Native.Nat.{ℕ, zero, suc, _+_, _<_, _≤_}
+use mathlib.Core.Logic.{_⊎_, ⊎-elim}
+use mathlib.Core.List.{List, [], _∷_, map, List·Memᴰ as Mem, List·Memᴰ·tail as there}
+use Prim.Native.Nat.{ℕ, _<_, _≤_}
 use native.Mathlib.Omega.{arith}
 use lib.ListN.{length, length-map}
 use Rattle.meaning.specs.Order.{Each, each-none, each-more, Sorted, sorted-none, sorted-more}
@@ -12,9 +12,9 @@ use Rattle.meaning.specs.Chart.{Known, Entry, Least, Chosen, Before, Made, Give
 use Rattle.meaning.specs.Reading.{Over}
 use Rattle.meaning.specs.Table.{got, checkTable}
 use Rattle.meaning.specs.Decode.{grammarOf}
-use Rattle.meaning.proofs.Order.{each-at, each-of, each-map}
+use Rattle.meaning.proofs.Order.{each-of}
 use Rattle.meaning.proofs.Theory.{mem-map, map-mem}
-use Rattle.store.specs.Set.{keyOf, heightOf, Held}
+use Rattle.store.specs.Set.{keyOf, heightOf}
 use Rattle.store.specs.Code.{unpacked, packed, knownOf}
 use Rattle.store.proofs.Laws.{lt-or-ge}
 use Rattle.store.proofs.Packing.{unpack-pack, same-key, lt→before}

@@ -1,7 +1,7 @@
 -- One level of the search: keys that are set into a sorted list at one height, from what is tried.
 use mathlib.Core.Path.{_≡_}
 use mathlib.Core.Logic.{_⊎_}
-use mathlib.Core.List.{List, [], _∷_, List·Memᴰ as Mem}
+use mathlib.Core.List.{List, List·Memᴰ as Mem}
 use Prim.Native.Nat.{ℕ, _+_, _<_, _≤_}
 use lib.ListN.{length, take}
 use Rattle.store.specs.Set.{Sorted, keyOf, heightOf, Held}

@@ -1,8 +1,8 @@
 -- What the search finds: the keys that can be made, each at its least height. Mk says at how many levels a key is made, Gv what a function
 -- number gives from keys.
 use mathlib.Core.Path.{_≡_}
-use mathlib.Core.List.{List, [], _∷_, map, List·Memᴰ as Mem}
-use Prim.Native.Nat.{ℕ, suc, _+_, _<_, _≤_}
+use mathlib.Core.List.{List, map, List·Memᴰ as Mem}
+use Prim.Native.Nat.{ℕ, _+_, _<_, _≤_}
 use lib.ListN.{length, take}
 use Rattle.meaning.specs.Order.{Each}
 use Rattle.meaning.specs.Chart.{Known, tallest, Least}

@@ -1,8 +1,7 @@
 -- Two parts of a sorted set, by their places.
-use mathlib.Core.Path.{_≡_}
 use mathlib.Core.Logic.{_⊎_}
 use mathlib.Core.List.{List}
-use Prim.Native.Nat.{ℕ, _+_, _<_, _≤_}
+use Prim.Native.Nat.{ℕ, _<_, _≤_}
 use lib.ListN.{length, getD}
 use Rattle.store.specs.Set.{Within}
 use Rattle.search.specs.declared.spots.Spots.{Spots}

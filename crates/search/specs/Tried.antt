@@ -10,11 +10,10 @@ use Rattle.meaning.specs.Range.{Range, Item}
 use Rattle.meaning.specs.Grammar.{Symbol}
 use Rattle.meaning.specs.Table.{rankOf, categoryOf}
 use Rattle.meaning.specs.Chart.{Known}
-use Rattle.store.specs.Set.{keyOf, heightOf}
 use Rattle.store.specs.Code.{unpacked, knownOf}
 use Rattle.phrase.specs.declared.items.Item.{Item as CodedItem}
 use Rattle.phrase.specs.declared.items.Daughters.{Daughters}
-use Rattle.phrase.specs.Phrase.{itemOf, RuleOf, Has, rowOf}
+use Rattle.phrase.specs.Phrase.{RuleOf, Has, rowOf}
 use Rattle.meaning.specs.Decode.{past, ruleAt, ruleEnd, firstRule}
 use Rattle.hint.specs.declared.Wants.{Wants}
 use Rattle.hint.specs.Hint.{seat, Open, heldAs, Partial, Completes, Does, Meets, Asks}

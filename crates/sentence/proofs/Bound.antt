@@ -1,6 +1,6 @@
 -- A tree spells at most as many words as its rules have symbols, since each constituent of each daughter is used once only.
 use mathlib.Core.Path.{_≡_, refl, sym, ap, _∙_}
-use mathlib.Core.List.{List, [], _∷_, _++_, map, List·Memᴰ as Mem}
+use mathlib.Core.List.{List, [], _∷_, map, List·Memᴰ as Mem}
 use mathlib.Core.Bool.{Bool, true, false, cond, _&&_}
 use Prim.Native.Nat.{ℕ, zero, suc, _+_, _*_, _≤_, _<_}
 use native.Mathlib.Omega.{arith}
@@ -9,7 +9,7 @@ use borrow.Author.Tests.{eqb-true}
 use lib.Dec.{eqb}
 use lib.ListN.{length, getD, length-append, List·getD-eq-default}
 use Rattle.meaning.specs.Grammar.{Symbol, word, part, Rule, Grammar, dimension, said, row, functions, preorder}
-use Rattle.meaning.specs.Grammar.{Tree, node, Trees, bare, and, Of, of, OfAll, of-none, of-more, spell, spells}
+use Rattle.meaning.specs.Grammar.{Tree, node, Trees, bare, and, Of, of, OfAll, of-more, spell, spells}
 use Rattle.meaning.specs.Valid.{Valid}
 
 module _ (w : ℕ → ℕ → ℕ) where

@@ -7,11 +7,10 @@ use Prim.Native.Nat.{ℕ, zero, suc, _+_, _-_, _≤_, _<_}
 use native.Mathlib.Omega.{arith}
 use native.Mathlib.Decide.{decLt}
 use native.Mathlib.Numerals.{add-one}
-use borrow.Author.Tests.{eq-eqb, ne-eqb}
 use lib.Dec.{eqb}
 use lib.ListN.{length, getD, take, drop, set, length-map, drop-of-length-le, List·getD-eq-default}
 use lib.Seq.{drop-cons, take-suc, take-suc-set}
-use Rattle.meaning.specs.Grammar.{Rule, Grammar}
+use Rattle.meaning.specs.Grammar.{Rule}
 use Rattle.meaning.specs.Table.{got, number, rankOf, checkTable}
 use Rattle.meaning.specs.Decode.{past, several, ruleAt, ruleEnd, firstRule, grammarOf}
 use Rattle.meaning.specs.Accepted.{FineRule, FineTable}

@@ -10,7 +10,7 @@ use borrow.Author.Tests.{eqb-false}
 use lib.Dec.{eqb}
 use lib.ListN.{length, getD, drop, length-append, List·getD-map}
 use lib.Seq.{drop-drop, drop-at}
-use Rattle.meaning.specs.Grammar.{word, part, Rule, Tree, node, Trees, bare, and, said, row, spell, spells}
+use Rattle.meaning.specs.Grammar.{word, part, Rule, node, Trees, said, row, spell, spells}
 use Rattle.meaning.specs.Table.{byte, number, rankOf, categoryOf, dimensionOf}
 use Rattle.meaning.specs.Decode.{past, several, symbolAt, rowAt, rowEnd, rowsOf, ruleAt}
 use Rattle.meaning.specs.Accepted.{FineRule, FineSymbol}

@@ -1,6 +1,6 @@
 -- What the contract of `sentence` comes to: an answer 0 has written exactly the words of the one tree that the list is; every tree's list is
 -- so answered where it may be; a refusal writes nothing; and the answer is determined.
-use mathlib.Core.Path.{_≡_, refl, sym, ap, _∙_}
+use mathlib.Core.Path.{_≡_, refl, _∙_}
 use mathlib.Core.List.{List, _++_}
 use Prim.Native.Nat.{ℕ, _≤_}
 use native.Mathlib.Omega.{arith}

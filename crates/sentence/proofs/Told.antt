@@ -11,7 +11,7 @@ use Rattle.meaning.specs.Table.{got, byte, number, categoryOf, dimensionOf, che
 use Rattle.meaning.specs.Decode.{past, several, rowAt, rowEnd, rowsOf, ruleAt, ruleEnd, firstRule, grammarOf}
 use Rattle.meaning.specs.Accepted.{FineRule, FineTable}
 use Rattle.meaning.specs.TreeWriting.{named}
-use Rattle.meaning.specs.SentenceWriting.{fault, Reads, words, SentenceWritten, wrong, no-room, wrote}
+use Rattle.meaning.specs.SentenceWriting.{Reads, words, SentenceWritten, wrong, no-room, wrote}
 use Rattle.meaning.proofs.Ends.{fine-table}
 use Rattle.meaning.proofs.Places.{dim-most}
 use Rattle.meaning.proofs.Decoded.{several-length, several-mem, valid-grammar}

@@ -1,12 +1,12 @@
 -- Packing loses nothing, and the order of keys is chart order.
-use mathlib.Core.Path.{_≡_, refl, ap, sym, subst, _∙_}
+use mathlib.Core.Path.{_≡_, refl, ap, sym, _∙_}
 use mathlib.Core.Logic.{_⊎_, inl, inr, ⊎-elim}
 use mathlib.Core.List.{List, [], _∷_, _++_}
-use Prim.Native.Nat.{ℕ, zero, suc, _+_, _*_, _/_, _%_, _<_, _≤_, _^_}
+use Prim.Native.Nat.{ℕ, zero, suc, _+_, _*_, _/_, _%_, _<_, _^_}
 use native.Mathlib.Omega.{arith}
 use lib.ListN.{length}
 use Rattle.meaning.specs.Order.{Lex}
-use Rattle.meaning.specs.Range.{Range, Item, numbers}
+use Rattle.meaning.specs.Range.{Item, numbers}
 use Rattle.meaning.specs.Chart.{Known, Before}
 use Rattle.meaning.proofs.Order.{lex-irr, lex-trans}
 use Rattle.store.specs.Set.{keyOf, heightOf}

@@ -1,7 +1,6 @@
 -- Packed items: an item's category and six range numbers as the digits of one number to the base 128, so that number order is chart order.
-use mathlib.Core.List.{List, []}
 use Prim.Native.Nat.{ℕ, _+_, _*_, _/_, _%_, _<_}
-use Rattle.meaning.specs.Range.{Range, Item}
+use Rattle.meaning.specs.Range.{Item}
 use Rattle.meaning.specs.Chart.{Known}
 use Rattle.store.specs.Set.{keyOf, heightOf}
 

@@ -1,12 +1,12 @@
 -- What is known of a rule while it is read: what the readers' `requires` ask.
-use Prim.Native.Nat.{ℕ, zero, suc, _+_, _-_, _≤_, _<_}
+use Prim.Native.Nat.{ℕ, _+_, _-_, _≤_, _<_}
 use mathlib.Core.Path.{_≡_, refl, sym, subst}
-use mathlib.Core.Bool.{Bool, true, false, not}
+use mathlib.Core.Bool.{Bool, false, not}
 use mathlib.Core.List.{List}
 use native.Mathlib.Omega.{arith}
 use lib.ListN.{length}
 use Rattle.meaning.specs.declared.Refusal.the-variants.{Category}
-use Rattle.meaning.specs.Table.{Got, got, refused, _>>=_, times, any, outside, byte, category, Used, rankOf, daughterOf, dimensionOf}
+use Rattle.meaning.specs.Table.{got, _>>=_, times, any, outside, byte, category, Used, rankOf, daughterOf, dimensionOf}
 use Rattle.meaning.specs.Accepted.{Dims, Headed}
 use Rattle.meaning.proofs.Fields.{inside, limited-there, times-there}
 use Rattle.table.specs.declared.cursor.Step.{Step}

@@ -1,24 +1,21 @@
 -- Each public contract determines its result: two results that it allows for the same call are equal.
 use Prim.Native.Nat.{ℕ, zero, suc, _≤_, _<_}
 use mathlib.Core.Path.{_≡_, refl, sym, ap, _∙_, subst}
-use mathlib.Core.List.{List, [], _∷_, _++_, List·Memᴰ as Mem, List·Memᴰ·head as here, List·Memᴰ·tail as there}
-use mathlib.Core.Option.{some}
+use mathlib.Core.List.{List, [], _∷_, List·Memᴰ as Mem, List·Memᴰ·head as here, List·Memᴰ·tail as there}
 use native.Mathlib.Omega.{arith}
 use native.Mathlib.Decide.{decLt}
 use lib.ListN.{length, getD, take, drop, take-append-drop}
 use lib.Seq.{getD-take, length-take-le}
 use Rattle.meaning.specs.Order.{Each, each-none, each-more, Sorted, sorted-none, sorted-more}
 use Rattle.meaning.specs.Grammar.{Rule}
-use Rattle.meaning.specs.Table.{got, number, checkTable}
+use Rattle.meaning.specs.Table.{number}
 use Rattle.meaning.specs.Decode.{ruleAt}
-use Rattle.meaning.specs.Accepted.{FineTable}
-use Rattle.meaning.proofs.Ends.{fine-table}
 use Rattle.meaning.proofs.Order.{same-members}
 use Rattle.meaning.proofs.Functions.{functions-differ}
 use Rattle.table.specs.declared.Verdict.{Verdict}
 use Rattle.table.specs.declared.Verdict.the-variants.{Valid, Invalid}
 use Rattle.table.specs.declared.walk.Found.{Found}
-use Rattle.table.specs.declared.walk.Found.the-variants.{At, Unknown}
+use Rattle.table.specs.declared.walk.Found.the-variants.{At}
 use Rattle.table.specs.Views.{verdictOf}
 use Rattle.table.specs.Walk.{placeOf, RuleOf, Finds, known, unknown, Ranked, Ordered}
 

@@ -1,7 +1,6 @@
 -- The places of an accepted table's rules, and the search for a rule by its function number.
-use Prim.Native.Nat.{ℕ, zero, suc, _+_, _-_, _≤_, _<_}
-use mathlib.Core.Path.{_≡_, refl, sym, ap, _∙_, subst}
-use mathlib.Core.Bool.{cond}
+use Prim.Native.Nat.{ℕ, suc, _+_, _-_, _≤_, _<_}
+use mathlib.Core.Path.{_≡_, refl, sym, ap, _∙_}
 use mathlib.Core.List.{List}
 use mathlib.Core.Option.{none, some}
 use native.Mathlib.Omega.{arith}
@@ -9,8 +8,7 @@ use native.Mathlib.Numerals.{add-one}
 use lib.ListN.{length}
 use borrow.Author.Tests.{eq-eqb, ne-eqb}
 use Rattle.meaning.specs.Table.{got, number, checkTable}
-use Rattle.meaning.specs.Decode.{past, several, ruleAt, ruleEnd, firstRule, grammarOf}
-use Rattle.meaning.specs.Accepted.{FineRule, FineTable}
+use Rattle.meaning.specs.Decode.{several, ruleAt, ruleEnd, firstRule, grammarOf}
 use Rattle.meaning.specs.TreeWriting.{named}
 use Rattle.meaning.proofs.Ends.{fine-table, past-suc}
 use Rattle.meaning.proofs.Places.{past-none, table-most}

@@ -4,10 +4,8 @@ use mathlib.Core.Path.{_≡_}
 use mathlib.Core.List.{List, [], _∷_, _++_}
 use mathlib.Core.Bool.{Bool, false}
 use lib.ListN.{length, getD, take, drop}
-use Rattle.meaning.specs.declared.Refusal.{Refusal}
 use Rattle.meaning.specs.declared.Refusal.the-variants.{Short}
 use Rattle.meaning.specs.Table.{Got, got, refused, Used, rankOf, daughterOf, dimensionOf}
-use Rattle.table.specs.declared.cursor.Cursor.{Cursor}
 use Rattle.table.specs.declared.cursor.Field.{Field}
 use Rattle.table.specs.declared.cursor.Field.the-variants.{Read, Cut}
 use Rattle.table.specs.declared.cursor.SymbolField.{SymbolField}

@@ -2,9 +2,8 @@
 -- definition says.
 use mathlib.Core.Path.{_≡_, refl, subst}
 use mathlib.Core.List.{List}
-use Prim.Native.Nat.{ℕ, _≤_, _<_}
+use Prim.Native.Nat.{ℕ, _<_}
 use native.Mathlib.Omega.{arith}
-use lib.ListN.{length}
 use Rattle.meaning.specs.Table.{got}
 use Rattle.meaning.specs.Decode.{grammarOf, wordsOf, checkInput}
 use Rattle.meaning.specs.TreeWriting.{TooMany, Passes, FirstBad, nodes, treeRoom, TreeWritten, too-many, bad-record, no-place, no-room, wrote}

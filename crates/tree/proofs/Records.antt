@@ -8,7 +8,7 @@ use native.Mathlib.Omega.{arith}
 use lib.ListN.{length, getD, getElem?, length-take}
 use lib.Seq.{slice, length-slice, getD-take}
 use Rattle.meaning.specs.Table.{got, checkTable}
-use Rattle.meaning.specs.Decode.{past, grammarOf}
+use Rattle.meaning.specs.Decode.{grammarOf}
 use Rattle.meaning.specs.Range.{Item}
 use Rattle.meaning.specs.Grammar.{Grammar}
 use Rattle.meaning.specs.Chart.{Known, tallest, GivenBy, knowns, known-of}

@@ -1,6 +1,5 @@
 -- `board::mcg_read` meets its contract: what the answer's numbers say, the array says.
 use Prim.Native.Nat.{ℕ}
-use native.Mathlib.Omega.{arith}
 use borrow.Author.Needs.{needs}
 use Rattle.meaning.specs.Reading.{Read}
 use Rattle.board.proofs.Laws.{handed}

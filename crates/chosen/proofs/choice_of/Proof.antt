@@ -1,5 +1,4 @@
-use mathlib.Core.Path.{_≡_, refl, ap, sym, _∙_}
-use Prim.Native.Nat.{ℕ}
+use mathlib.Core.Path.{ap, _∙_}
 use Rattle.meaning.specs.Table.{number}
 use Rattle.chosen.proofs.Picking.{code-small, order-few, walking, not-nowhere, found-below, picked}
 use native.Mathlib.Omega.{arith}

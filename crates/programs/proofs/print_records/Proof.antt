@@ -2,7 +2,6 @@
 use Prim.Native.Nat.{_≤_, _-_}
 use lib.ListN.{length}
 use borrow.Author.Needs.{needs}
-use native.Mathlib.Omega.{arith}
 use Rattle.programs.proofs.print_records.Statement.{statement}
 use Rattle.programs.proofs.print_records.Tie as tie
 

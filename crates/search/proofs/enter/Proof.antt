@@ -1,6 +1,5 @@
 use Rattle.search.proofs.Filling.{entered-known, entered-put}
 use Rattle.store.proofs.Sets.{held-yes, held-not}
-use native.Mathlib.Omega.{arith}
 use borrow.Author.Needs.{needs}
 use Rattle.search.proofs.enter.Statement.{statement}
 use Rattle.search.proofs.enter.Tie as tie

@@ -1,7 +1,7 @@
 -- `search::level` meets its contract: rule by rule, where a rule that is like one before it is passed over.
-use mathlib.Core.Path.{_≡_, refl, sym, _∙_}
+use mathlib.Core.Path.{_≡_, _∙_}
 use mathlib.Core.Logic.{⊎-elim}
-use Prim.Native.Nat.{ℕ, _+_, _-_, _≤_}
+use Prim.Native.Nat.{_-_, _≤_}
 use Rattle.phrase.proofs.Fit.{said-yes}
 use Rattle.search.proofs.Filling.{goes-on}
 use Rattle.search.proofs.Ruling.{place, ByFirst, ready-none, ready-at, trying-at, tried-at, rule-ends, next-place, first-place, rules-begin, rules-same, rules-end, rules-skip, rules-turn, rules-stop}

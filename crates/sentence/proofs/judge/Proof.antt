@@ -1,5 +1,4 @@
-use mathlib.Core.Path.{_≡_, refl}
-use native.Mathlib.Omega.{arith}
+use mathlib.Core.Path.{refl}
 use borrow.Author.Needs.{needs}
 use Rattle.table.proofs.Laws.{knew}
 use Rattle.sentence.specs.Nodes.{walkedOf}

@@ -1,6 +1,5 @@
 use mathlib.Core.Path.{_≡_, sym, ap, _∙_}
-use mathlib.Core.List.{List, _++_, map}
-use native.Mathlib.Omega.{arith}
+use mathlib.Core.List.{_++_, map}
 use borrow.Author.Needs.{needs}
 use lib.ListN.{length, take, drop, length-map}
 use lib.Seq.{length-take-le}

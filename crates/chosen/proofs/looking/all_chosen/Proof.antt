@@ -1,5 +1,3 @@
-use mathlib.Core.Path.{_≡_, refl, sym, subst}
-use Prim.Native.Nat.{ℕ}
 use Rattle.phrase.specs.Phrase.{fails}
 use Rattle.phrase.proofs.Fit.{instead}
 use Rattle.chosen.proofs.Leading.{leads-high, leads-gives, gives-leads}

@@ -1,5 +1,4 @@
-use mathlib.Core.Path.{_≡_, refl, sym, subst, _∙_}
-use Prim.Native.Nat.{ℕ}
+use mathlib.Core.Path.{_∙_}
 use Rattle.phrase.proofs.RuleThere.{fine}
 use Rattle.chosen.proofs.Seeking.{seek-none, other-kind}
 use native.Mathlib.Omega.{arith}

@@ -1,5 +1,4 @@
-use mathlib.Core.Path.{_≡_, refl, sym, subst}
-use Prim.Native.Nat.{ℕ}
+use mathlib.Core.Path.{refl}
 use Rattle.phrase.specs.Phrase.{fails}
 use Rattle.phrase.proofs.Fit.{said-no}
 use Rattle.chosen.proofs.Leading.{seated-more}

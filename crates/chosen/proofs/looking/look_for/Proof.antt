@@ -1,5 +1,3 @@
-use mathlib.Core.Path.{_≡_, refl, sym, subst}
-use Prim.Native.Nat.{ℕ}
 use Rattle.chosen.proofs.Seeking.{seek-one, seek-there}
 use native.Mathlib.Omega.{arith}
 use borrow.Author.Needs.{needs}

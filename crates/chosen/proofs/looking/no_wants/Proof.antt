@@ -1,6 +1,4 @@
 use Rattle.chosen.proofs.Seeking.{any-wants}
-use borrow.Author.Needs.{needs}
-use native.Mathlib.Omega.{arith}
 use Rattle.chosen.proofs.looking.no_wants.Statement.{statement}
 use Rattle.chosen.proofs.looking.no_wants.Tie as tie
 use Rattle.chosen.proofs.looking.no_wants.Reads as reads

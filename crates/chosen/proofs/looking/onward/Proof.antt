@@ -1,5 +1,3 @@
-use mathlib.Core.Path.{_≡_, refl, sym, subst}
-use Prim.Native.Nat.{ℕ}
 use Rattle.phrase.proofs.Fit.{said-no}
 use Rattle.chosen.proofs.Seeking.{seek-none}
 use native.Mathlib.Omega.{arith}

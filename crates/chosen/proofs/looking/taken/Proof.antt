@@ -1,7 +1,5 @@
-use mathlib.Core.Path.{_≡_, refl, sym, subst}
-use Prim.Native.Nat.{ℕ}
+use mathlib.Core.Path.{sym}
 use Rattle.chosen.proofs.Leading.{taken-by, taken-out}
-use native.Mathlib.Omega.{arith}
 use borrow.Author.Needs.{needs}
 use Rattle.chosen.proofs.looking.taken.Statement.{statement}
 use Rattle.chosen.proofs.looking.taken.Tie as tie

@@ -1,11 +1,10 @@
-use mathlib.Core.Path.{_≡_, refl, ap, sym, subst, _∙_}
-use mathlib.Core.List.{List}
-use Prim.Native.Nat.{ℕ, _-_, _≤_, _<_}
+use mathlib.Core.Path.{_≡_, refl, ap}
+use Prim.Native.Nat.{_-_, _≤_}
 use lib.ListN.{length}
 use Rattle.phrase.proofs.Fit.{said-yes, said-no}
 use Rattle.phrase.proofs.RuleThere.{head-in}
 use Rattle.search.specs.declared.spots.Spots.{Spots}
-use Rattle.chosen.specs.declared.walk.Walked.the-variants.{At, Nowhere}
+use Rattle.chosen.specs.declared.walk.Walked.the-variants.{Nowhere}
 use Rattle.chosen.specs.Walk as spec
 use Rattle.chosen.specs.Walk.{Passed}
 use Rattle.chosen.proofs.Steps.{One, Two, Three, start, a-first, b-first, c-first, c-next, b-next, a-next, f-next, works}

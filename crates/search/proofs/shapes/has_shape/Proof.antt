@@ -1,6 +1,6 @@
 -- `search::shapes::has_shape` meets its contract: none of the rules so far is like this one.
 use mathlib.Core.Path.{_≡_, refl}
-use Prim.Native.Nat.{ℕ, _+_, _-_, _≤_}
+use Prim.Native.Nat.{_-_, _≤_}
 use Rattle.meaning.specs.Decode.{past, ruleEnd, firstRule}
 use Rattle.phrase.specs.Phrase.{holds, fails}
 use Rattle.phrase.proofs.Fit.{said-yes, said-no}

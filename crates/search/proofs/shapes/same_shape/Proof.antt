@@ -1,6 +1,6 @@
 -- `search::shapes::same_shape` meets its contract: byte by byte the rules are the same so far.
-use mathlib.Core.Path.{_≡_, sym, _∙_}
-use Prim.Native.Nat.{ℕ, _+_, _-_, _≤_}
+use mathlib.Core.Path.{sym, _∙_}
+use Prim.Native.Nat.{_-_, _≤_}
 use Rattle.phrase.specs.Phrase.{holds, fails}
 use Rattle.search.proofs.Likeness.{SameTo, same-begins, same-turns, same-ends, rule-in}
 use borrow.Author.Needs.{needs}

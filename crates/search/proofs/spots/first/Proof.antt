@@ -1,6 +1,4 @@
-use borrow.Author.Needs.{needs}
 use Rattle.search.proofs.Parts.{skips-first, skips-to}
-use native.Mathlib.Omega.{arith}
 use Rattle.search.proofs.spots.first.Statement.{statement}
 use Rattle.search.proofs.spots.first.Tie as tie
 use Rattle.search.proofs.spots.first.Reads as reads

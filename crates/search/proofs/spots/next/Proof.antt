@@ -1,5 +1,4 @@
 use Rattle.search.proofs.Parts.{skips-gap, skips-none}
-use native.Mathlib.Omega.{arith}
 use borrow.Author.Needs.{needs}
 use Rattle.search.proofs.spots.next.Statement.{statement}
 use Rattle.search.proofs.spots.next.Tie as tie

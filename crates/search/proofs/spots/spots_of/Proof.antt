@@ -1,5 +1,4 @@
 use Rattle.search.proofs.Parts.{finds}
-use native.Mathlib.Omega.{arith}
 use borrow.Author.Needs.{needs}
 use Rattle.search.proofs.spots.spots_of.Statement.{statement}
 use Rattle.search.proofs.spots.spots_of.Tie as tie

@@ -1,4 +1,3 @@
-use mathlib.Core.Path.{_≡_, refl, sym, _∙_, subst}
 use Rattle.phrase.proofs.RuleThere.{head-in}
 use native.Mathlib.Omega.{arith}
 use borrow.Author.Needs.{needs}

@@ -1,4 +1,3 @@
-use native.Mathlib.Omega.{arith}
 use borrow.Author.Needs.{needs}
 use Rattle.search.proofs.trying.none_of.Statement.{statement}
 use Rattle.search.proofs.trying.none_of.Tie as tie

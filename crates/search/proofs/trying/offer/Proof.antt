@@ -1,5 +1,3 @@
-use mathlib.Core.Path.{_≡_, refl, sym, _∙_}
-use Prim.Native.Nat.{ℕ}
 use Rattle.phrase.proofs.Fit.{said-yes, said-no}
 use Rattle.search.proofs.Filling.{nothing-yet, same}
 use Rattle.search.proofs.Offers.{tried-high, tried-kinds, tried-offered, offered-tried}

@@ -1,12 +1,11 @@
 use mathlib.Core.Path.{_≡_, refl, _∙_}
-use Prim.Native.Nat.{ℕ, _+_, _-_, _≤_}
+use Prim.Native.Nat.{_-_, _≤_}
 use lib.ListN.{length}
 use Rattle.meaning.specs.Table.{categoryOf}
 use Rattle.store.specs.Code.{unpacked}
 use Rattle.phrase.specs.Phrase.{rangeOf, rowOf}
 use Rattle.phrase.proofs.RuleThere.{head-in}
 use Rattle.search.specs.Level.{Filled}
-use Rattle.search.specs.Tried.{Ranged}
 use Rattle.search.proofs.Filling.{goes-on}
 use Rattle.search.proofs.Choosing.{rule-kind}
 use Rattle.search.proofs.Offers.{Passed, row-begins, row-ends, row-turns, row-stops, next-apart, next-joined, next-has, third-entered}

@@ -1,6 +1,4 @@
-use borrow.Author.Needs.{needs}
 use Rattle.search.proofs.Choosing.{put-first, put-second, put-last}
-use native.Mathlib.Omega.{arith}
 use Rattle.search.proofs.trying.with.Statement.{statement}
 use Rattle.search.proofs.trying.with.Tie as tie
 use Rattle.search.proofs.trying.with.Reads as reads

@@ -1,5 +1,4 @@
 use Rattle.sentence.proofs.Places.{found-place}
-use native.Mathlib.Omega.{arith}
 use borrow.Author.Needs.{needs}
 use Rattle.sentence.proofs.nodes.place_for.Statement.{statement}
 use Rattle.sentence.proofs.nodes.place_for.Tie as tie

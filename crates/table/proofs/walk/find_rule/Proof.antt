@@ -6,7 +6,7 @@ use mathlib.Core.Path.{_≡_, sym, ap, _∙_}
 use Rattle.meaning.specs.Table.{number}
 use Rattle.meaning.specs.Decode.{several, ruleAt, ruleEnd, grammarOf}
 use Rattle.meaning.specs.TreeWriting.{named}
-use Rattle.table.specs.Walk.{placeOf, RuleOf, known, unknown}
+use Rattle.table.specs.Walk.{placeOf, known, unknown}
 use Rattle.table.proofs.Walks.{place-first, place-next, end-within, named-start, named-none, named-here, named-on}
 use Rattle.table.proofs.walk.find_rule.Statement.{statement}
 use Rattle.table.proofs.walk.find_rule.Tie as tie

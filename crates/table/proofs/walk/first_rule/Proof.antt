@@ -1,5 +1,4 @@
 use borrow.Author.Needs.{needs}
-use native.Mathlib.Omega.{arith}
 use Rattle.meaning.proofs.Places.{first-is}
 use Rattle.table.proofs.walk.first_rule.Statement.{statement}
 use Rattle.table.proofs.walk.first_rule.Tie as tie

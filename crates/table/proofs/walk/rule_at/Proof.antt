@@ -1,6 +1,4 @@
-use borrow.Author.Needs.{needs}
 use native.Mathlib.Omega.{arith}
-use Rattle.meaning.specs.Accepted.{FineRule, FineTable}
 use Rattle.meaning.proofs.Ends.{fine-table}
 use Rattle.table.proofs.walk.rule_at.Statement.{statement}
 use Rattle.table.proofs.walk.rule_at.Tie as tie

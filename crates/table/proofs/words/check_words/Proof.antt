@@ -1,6 +1,5 @@
 -- `words::check_words` meets its contract. Assumes nothing.
 use borrow.Author.Needs.{needs}
-use mathlib.Core.Path.{_∙_}
 use borrow.Author.Tests.{lt-ltb, le-ltb, eq-eqb, ne-eqb}
 use Rattle.meaning.specs.Decode.{checkWords}
 use Rattle.table.proofs.Sentence.{forget}

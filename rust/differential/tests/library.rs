@@ -13,7 +13,7 @@ fn the_library_agrees_on_the_fixed_cases() {
 
 #[test]
 fn the_library_agrees_on_random_rounds() {
-    if let Err(mismatch) = rounds(&mut Pair::new(&Reference, &Library), 1, 20_000) {
+    if let Err(mismatch) = rounds(&mut Pair::new(&Reference, &Library), 1, 50_000) {
         panic!("{mismatch}");
     }
 }

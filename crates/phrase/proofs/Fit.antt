@@ -7,15 +7,13 @@ use mathlib.Core.List.{List, []}
 use mathlib.Core.Logic.{inl, inr}
 use native.Mathlib.Omega.{arith}
 use native.Mathlib.Decide.{decLt}
-use lib.Dec.{T}
 use lib.ListN.{length}
-use Rattle.meaning.specs.Range.{Range, none, IsRange}
+use Rattle.meaning.specs.Range.{Range, none}
 use Rattle.meaning.specs.Grammar.{Symbol, word, part}
 use Rattle.meaning.specs.Giving.{done, more, Stands}
 use Rattle.meaning.proofs.Joining.{Join, left, right, next, joined→join}
 use Rattle.meaning.proofs.Spans.{word-at}
-use Rattle.meaning.proofs.Search.{isRange→, →isRange}
-use Rattle.phrase.specs.Row.{isRange, eval, starts}
+use Rattle.phrase.specs.Row.{eval, starts}
 use Rattle.phrase.specs.declared.items.Daughters.{Daughters}
 use Rattle.phrase.specs.Phrase.{heldOf, Decides, holds, fails, Has, StartsAt, stands, stands-not, startOf, Next, found, over}
 use Rattle.phrase.proofs.Runs.{run→eval, eval→run, run-starts}
@@ -32,11 +30,6 @@ said-no (fails n) e = n
 pub instead : {P Q : Type 0} {b : Bool} → (P → Q) → (Q → P) → Decides P b → Decides Q b
 instead f g (holds p) = holds (f p)
 instead f g (fails n) = fails (λ q. n (g q))
-
--- what `is_range` answers is whether it is a range of the sentence
-pub decides-range : (ws : List ℕ) (p : Range) (b : Bool) → b ≡ isRange ws p → Decides (IsRange ws p) b
-decides-range ws p true e = holds (isRange→ ws p (subst T e tt))
-decides-range ws p false e = fails (λ h. subst T (sym e) (→isRange ws h))
 
 -- a row of nothing
 module _ (ws : List ℕ) (d : Daughters) where

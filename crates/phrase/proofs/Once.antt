@@ -1,5 +1,5 @@
 -- Any two results that a contract of this crate allows are equal: its views lose nothing, and its relations have one answer.
-use Prim.Native.Nat.{ℕ, zero, suc, _≤_, _<_}
+use Prim.Native.Nat.{ℕ, zero, suc, _<_}
 use mathlib.Core.Path.{_≡_, refl, sym, ap, _∙_}
 use mathlib.Core.Bool.{Bool}
 use mathlib.Core.Option.{Option, some as just}
@@ -16,11 +16,8 @@ use Rattle.phrase.specs.declared.items.Item.{Item as CodedItem}
 use Rattle.phrase.specs.declared.items.Daughters.{Daughters}
 use Rattle.phrase.specs.declared.rows.Row.{Row}
 use Rattle.phrase.specs.declared.rows.Starts.{Starts}
-use Rattle.phrase.specs.declared.giving.Given.{Given}
-use Rattle.phrase.specs.declared.giving.Given.the-variants.{Ranges, Over}
-use Rattle.phrase.specs.Phrase.{rangeOf, joinOf, startsOf, itemOf, heldOf, givenOf, RowIs, Decides, holds, fails, Has, Next, found, over, startOf, Three, threeStarts, HasThree}
+use Rattle.phrase.specs.Phrase.{rangeOf, joinOf, startsOf, itemOf, heldOf, RowIs, Decides, holds, fails, Has, Next, found, over, startOf}
 use Rattle.phrase.proofs.Runs.{run-once}
-use Rattle.phrase.proofs.Offers.{three-one}
 
 -- the structs and enums say no more than what they mean
 pub range-once : (p q : Coded) → rangeOf p ≡ rangeOf q → p ≡ q
@@ -37,17 +34,6 @@ join-once (Joined p) (Joined q) e = ap Joined (range-once p q (the e))
 join-once (Joined p) Apart e = let z : _≡_ {A = ℕ} 0 1 = cc in absurd (omega arith)
 join-once Apart (Joined q) e = let z : _≡_ {A = ℕ} 0 1 = cc in absurd (omega arith)
 join-once Apart Apart e = refl
-
-pub given-once : (r s : Given) → givenOf r ≡ givenOf s → r ≡ s
-given-once (Ranges p q r) (Ranges p′ q′ r′) e =
-    let f = the e in
-    let x = range-once p p′ (ap (λ (u : Three). u .0) f) in
-    let y = range-once q q′ (ap (λ (u : Three). u .1 .0) f) in
-    let z = range-once r r′ (ap (λ (u : Three). u .1 .1) f) in
-    λ i. Ranges (x i) (y i) (z i)
-given-once (Ranges p q r) Over e = let z : _≡_ {A = ℕ} 0 1 = cc in absurd (omega arith)
-given-once Over (Ranges p q r) e = let z : _≡_ {A = ℕ} 0 1 = cc in absurd (omega arith)
-given-once Over Over e = refl
 
 -- an array of six numbers is its three ranges
 pub item-once : (x y : CodedItem) → length (x .ends) ≡ 6 → length (y .ends) ≡ 6 → itemOf x ≡ itemOf y → x .height ≡ y .height → x ≡ y
@@ -85,7 +71,3 @@ module _ {A : Type 0} {key : A → ℕ} {P : A → Type 0} {n : ℕ} (one : (x y
 module _ (ws : List ℕ) (d : Daughters) where
   pub row-next-once : (ss : List Symbol) {n : ℕ} (r s : Join) → Next startOf (Has ws d ss) n (joinOf r) → Next startOf (Has ws d ss) n (joinOf s) → r ≡ s
   row-next-once ss r s g h = join-once r s (next-once (λ p q a b e. run-once ws (heldOf d) a b e) g h)
-
-  pub given-next-once : (one two three : List Symbol) → length ws ≤ 64 → {n : ℕ} (r s : Given)
-      → Next threeStarts (HasThree ws d one two three) n (givenOf r) → Next threeStarts (HasThree ws d one two three) n (givenOf s) → r ≡ s
-  given-next-once one two three short r s g h = given-once r s (next-once (three-one ws d short one two three) g h)

@@ -1,5 +1,5 @@
 -- What the structs and enums of the code mean, and what the functions over them promise.
-use Prim.Native.Nat.{ℕ, _+_, _*_, _≤_, _<_}
+use Prim.Native.Nat.{ℕ, _+_, _≤_, _<_}
 use mathlib.Core.Path.{_≡_}
 use mathlib.Core.Bool.{Bool, true, false, cond}
 use mathlib.Core.Option.{Option, none as apart, some as just}
@@ -21,10 +21,6 @@ use Rattle.phrase.specs.declared.items.Daughters.{Daughters}
 use Rattle.phrase.specs.declared.rows.Row.{Row}
 use Rattle.phrase.specs.declared.rows.Row.the-variants.{At, Past}
 use Rattle.phrase.specs.declared.rows.Starts.{Starts as CodedStarts}
-use Rattle.phrase.specs.declared.giving.Pair.{Pair}
-use Rattle.phrase.specs.declared.giving.Pair.the-variants.{Both, Neither}
-use Rattle.phrase.specs.declared.giving.Given.{Given}
-use Rattle.phrase.specs.declared.giving.Given.the-variants.{Ranges, Over}
 
 -- a range of the code
 abbrev pub rangeOf : Coded → Range
@@ -110,40 +106,6 @@ pub data Next {A : Type 0} (key : A → ℕ) (P : A → Type 0) (from : ℕ) : O
 abbrev pub startOf : Range → ℕ
 startOf r = r .from
 
--- a range for each of two rows
-abbrev pub Two : Type 0
-Two = Range × Range
-
--- the number of two ranges: they go by the first start, then the next; all starts are below 65
-abbrev pub twoStarts : Two → ℕ
-twoStarts p = p .0 .from * 65 + p .1 .from
-
--- the ranges are some that the two rows can have
-abbrev pub HasTwo : List ℕ → Daughters → List Symbol → List Symbol → Two → Type 0
-HasTwo ws d one two p = Has ws d one (p .0) × Has ws d two (p .1)
-
--- a range for each of three rows
-abbrev pub Three : Type 0
-Three = Range × Two
-
--- the number of three ranges: the first start, then the number of the two others, which is below 65 * 65
-abbrev pub threeStarts : Three → ℕ
-threeStarts p = p .0 .from * 4225 + twoStarts (p .1)
-
--- the ranges are some that the three rows can have
-abbrev pub HasThree : List ℕ → Daughters → List Symbol → List Symbol → List Symbol → Three → Type 0
-HasThree ws d one two three p = Has ws d one (p .0) × HasTwo ws d two three (p .1)
-
--- the answer for two rows: Both is a range for each, Neither is none
-abbrev pub pairOf : Pair → Option Two
-pairOf (Both p q) = just (rangeOf p, rangeOf q)
-pairOf Neither = apart
-
--- the answer for three rows: Ranges is a range for each, Over is none
-abbrev pub givenOf : Given → Option Three
-givenOf (Ranges p q r) = just (rangeOf p, (rangeOf q, rangeOf r))
-givenOf Over = apart
-
 -- the item of a category that three ranges make
-abbrev pub itemFrom : ℕ → Three → Item
+abbrev pub itemFrom : ℕ → Range × (Range × Range) → Item
 itemFrom A p = record { category = A; one = p .0; two = p .1 .0; three = p .1 .1 }

@@ -1,37 +1,19 @@
-// What a rule gives from its daughters: whether it gives an item, and all that it gives, one after another.
+// What a rule gives from its daughters: whether they are of its kinds, and whether it gives an item.
 ghost use mathlib.Core.Path.{_≡_};
-ghost use Prim.Native.Nat.{_+_, _*_, _≤_, min};
-ghost use mathlib.Core.Bool.{cond};
-ghost use lib.Dec.{eqb};
-ghost use lib.ListN.{length, getD};
+ghost use Prim.Native.Nat.{min};
+ghost use lib.ListN.{getD};
 ghost use Rattle.meaning.specs.Range as range;
 ghost use Rattle.meaning.specs.Giving.{categories};
 ghost use Rattle.meaning.specs.Decode.{ruleAt};
-ghost use Rattle.phrase.specs.Phrase.{itemOf, itemsOf, symbolsOf, rowOf, EndsIn, RuleOf, Decides, Has, GivesAt, Next, twoStarts, threeStarts, HasTwo, HasThree, pairOf, givenOf};
+ghost use Rattle.phrase.specs.Phrase.{itemOf, itemsOf, rowOf, RuleOf, Decides, Has, GivesAt};
 use crate::items::Daughters;
 use crate::items::Item;
 use crate::items::kind_at;
 use crate::items::range_at;
-use crate::ranges::Join;
-use crate::ranges::Range;
-use crate::rows::Row;
 use crate::rows::row_fits;
-use crate::rows::row_next;
 use crate::rows::row_of;
 use table::byte_at;
 use table::size;
-
-// The ranges of two rows, or that there are none.
-enum Pair {
-    Both(Range, Range),
-    Neither,
-}
-
-// The ranges of an item that is given, or that there are no more.
-pub enum Given {
-    Ranges(Range, Range, Range),
-    Over,
-}
 
 // The category that the rule wants as daughter k, from 0; 0 where it wants none.
 fn wanted_at(table: &[u8], rule: usize, k: usize) -> u16
@@ -110,98 +92,4 @@ pub fn fits(table: &[u8], rule: usize, words: &[u16], d: Daughters, x: Item) -> 
         return false;
     }
     true
-}
-
-// Where the rows after the first go on: at rest if the first stands where it is wanted, from 0 if it stands later.
-fn onward(first: usize, wanted: usize, rest: usize) -> usize
-    ensures { λ r. ⌜ r ≡ cond (eqb first wanted) rest 0 ⌝ }
-{
-    if first == wanted {
-        return rest;
-    }
-    0
-}
-
-// The first ranges of two rows whose first starts at b or later.
-fn pair_after(table: &[u8], one: Row, two: Row, words: &[u16], d: Daughters, b: usize) -> Pair
-    requires { ⌜ EndsIn (now table) one × EndsIn (now table) two × (length (now words) ≤ 64) ⌝ }
-    ensures { λ r. ⌜ Next twoStarts (HasTwo (now (words .entry)) d (symbolsOf (now (table .entry)) one) (symbolsOf (now (table .entry)) two)) (b * 65 + 0) (pairOf r) ⌝ }
-{
-    let Join::Joined(p) = row_next(table, one, words, d, b) else {
-        return Pair::Neither;
-    };
-    let Join::Joined(q) = row_next(table, two, words, d, 0) else {
-        return Pair::Neither;
-    };
-    Pair::Both(p, q)
-}
-
-// The first ranges of two rows from a number on.
-fn pair_next(table: &[u8], one: Row, two: Row, words: &[u16], d: Daughters, n: usize) -> Pair
-    requires { ⌜ EndsIn (now table) one × EndsIn (now table) two × (length (now words) ≤ 64) ⌝ }
-    ensures { λ r. ⌜ Next twoStarts (HasTwo (now (words .entry)) d (symbolsOf (now (table .entry)) one) (symbolsOf (now (table .entry)) two)) n (pairOf r) ⌝ }
-{
-    let b = n / 65;
-    let Join::Joined(p) = row_next(table, one, words, d, b) else {
-        return Pair::Neither;
-    };
-    let c = onward(p.from, b, n % 65);
-    let Join::Joined(q) = row_next(table, two, words, d, c) else {
-        if c == 0 {
-            return Pair::Neither;
-        }
-        let next = b + 1;
-        return pair_after(table, one, two, words, d, next);
-    };
-    Pair::Both(p, q)
-}
-
-// The first ranges of three rows whose first starts at a or later.
-fn given_after(
-    table: &[u8],
-    one: Row,
-    two: Row,
-    three: Row,
-    words: &[u16],
-    d: Daughters,
-    a: usize,
-) -> Given
-    requires { ⌜ EndsIn (now table) one × EndsIn (now table) two × EndsIn (now table) three × (length (now words) ≤ 64) ⌝ }
-    ensures { λ r. ⌜ Next threeStarts (HasThree (now (words .entry)) d (symbolsOf (now (table .entry)) one) (symbolsOf (now (table .entry)) two) (symbolsOf (now (table .entry)) three)) (a * 4225 + 0) (givenOf r) ⌝ }
-{
-    let Join::Joined(p) = row_next(table, one, words, d, a) else {
-        return Given::Over;
-    };
-    let Pair::Both(q, r) = pair_next(table, two, three, words, d, 0) else {
-        return Given::Over;
-    };
-    Given::Ranges(p, q, r)
-}
-
-// The first ranges of three rows from a number on: of an item that the rows' rule gives, if the daughters are of its kinds.
-pub fn given_next(
-    table: &[u8],
-    one: Row,
-    two: Row,
-    three: Row,
-    words: &[u16],
-    d: Daughters,
-    n: usize,
-) -> Given
-    requires { ⌜ EndsIn (now table) one × EndsIn (now table) two × EndsIn (now table) three × (length (now words) ≤ 64) ⌝ }
-    ensures { λ r. ⌜ Next threeStarts (HasThree (now (words .entry)) d (symbolsOf (now (table .entry)) one) (symbolsOf (now (table .entry)) two) (symbolsOf (now (table .entry)) three)) n (givenOf r) ⌝ }
-{
-    let a = n / 4225;
-    let Join::Joined(p) = row_next(table, one, words, d, a) else {
-        return Given::Over;
-    };
-    let m = onward(p.from, a, n % 4225);
-    let Pair::Both(q, r) = pair_next(table, two, three, words, d, m) else {
-        if m == 0 {
-            return Given::Over;
-        }
-        let next = a + 1;
-        return given_after(table, one, two, three, words, d, next);
-    };
-    Given::Ranges(p, q, r)
 }

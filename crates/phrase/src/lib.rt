@@ -4,9 +4,7 @@ mod items;
 mod ranges;
 mod rows;
 
-pub use giving::Given;
 pub use giving::fits;
-pub use giving::given_next;
 pub use giving::kinds;
 pub use items::Daughters;
 pub use items::Item;
@@ -15,8 +13,6 @@ pub use items::item_of;
 pub use items::range_at;
 pub use ranges::Join;
 pub use ranges::Range;
-pub use ranges::is_range;
-pub use ranges::joined;
 pub use rows::Row;
 pub use rows::row_next;
 pub use rows::row_of;

@@ -30,7 +30,7 @@ fn is_none(p: Range) -> bool
 }
 
 // The range of p and q side by side: the other where one is empty, both where p ends as q starts.
-pub fn joined(p: Range, q: Range) -> Join
+pub(crate) fn joined(p: Range, q: Range) -> Join
     ensures { λ r. ⌜ joinOf r ≡ range.joined (rangeOf p) (rangeOf q) ⌝ }
 {
     if is_none(p) {
@@ -49,7 +49,7 @@ pub fn joined(p: Range, q: Range) -> Join
 }
 
 // Whether it is a range of the sentence.
-pub fn is_range(words: &[u16], p: Range) -> bool
+pub(crate) fn is_range(words: &[u16], p: Range) -> bool
     ensures { λ r. ⌜ r ≡ row.isRange (now (words .entry)) (rangeOf p) ⌝ }
 {
     if is_none(p) {

@@ -6,7 +6,7 @@ use lib.ListN.{length, getD}
 use Rattle.meaning.specs.Table.{got, checkTable, number}
 use Rattle.meaning.specs.Decode.{grammarOf}
 use Rattle.meaning.specs.Chart.{GivenBy, Chosen}
-use Rattle.table.specs.Walk.{Ranked}
+use Rattle.rules.specs.Walk.{Ranked}
 use Rattle.store.specs.Code.{knownOf}
 use Rattle.search.specs.Search.{All}
 use Rattle.search.specs.Keys.{KeyMade}

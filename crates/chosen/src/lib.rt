@@ -5,9 +5,9 @@ mod walk;
 ghost use mathlib.Core.Path.{_≡_};
 ghost use Prim.Native.Nat.{ℕ, _%_};
 ghost use Rattle.chosen.specs.Chosen.{Choosing, Chooses};
+use fields::number_at;
+use fields::size;
 use search::unpack;
-use table::number_at;
-use table::size;
 use walk::Walked;
 use walk::walk;
 

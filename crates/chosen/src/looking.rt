@@ -9,6 +9,8 @@ ghost use Rattle.hint.specs.Hint.{Meets};
 ghost use Rattle.search.specs.Tried.{noneOf};
 ghost use Rattle.chosen.specs.Walk as spec;
 ghost use Rattle.chosen.specs.Walk.{Leads, Seeks, Seated, Looking, Anyhow};
+use fields::byte_at;
+use fields::size;
 use hint::Want;
 use hint::Wants;
 use hint::meets;
@@ -21,8 +23,6 @@ use search::spots_for;
 use search::top;
 use search::unpack;
 use search::with;
-use table::byte_at;
-use table::size;
 
 // The places where a daughter is looked for, and what is asked of it.
 pub struct Look {

@@ -8,12 +8,12 @@ use crate::looking::begin;
 use crate::looking::gives;
 use crate::looking::onward;
 use crate::looking::taken;
+use fields::byte_at;
+use fields::size;
 use phrase::Item;
 use search::first;
 use search::next;
 use search::none_of;
-use table::byte_at;
-use table::size;
 
 // The place of a function in the order of function numbers, and the places of its daughters.
 pub enum Walked {

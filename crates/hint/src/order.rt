@@ -7,12 +7,12 @@ ghost use Rattle.phrase.specs.Phrase.{RuleOf, Decides};
 ghost use Rattle.hint.specs.Hint.{seat, Open, Partial, Turns};
 ghost use Rattle.hint.specs.State.{Named};
 use crate::Turn;
+use fields::byte_at;
+use fields::number_at;
+use fields::size;
 use phrase::Daughters;
 use phrase::Row;
 use phrase::row_of;
-use table::byte_at;
-use table::number_at;
-use table::size;
 
 // The category of daughter k, from 0; 0 where it is not chosen yet.
 pub(crate) fn category_of(d: Daughters, k: usize) -> u16

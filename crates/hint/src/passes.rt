@@ -11,13 +11,13 @@ use crate::steps::asked;
 use crate::steps::part_at;
 use crate::steps::step_back;
 use crate::steps::step_on;
+use fields::byte_at;
 use phrase::Daughters;
 use phrase::Item;
 use phrase::Row;
 use phrase::range_at;
 use phrase::row_of;
-use table::byte_at;
-use table::row_end;
+use rules::row_end;
 
 // Asks besides that part c, from 0, start at a place; past the third part there is nothing to ask.
 fn ask_start(w: Wants, c: usize, place: u64) -> Wants

@@ -11,12 +11,12 @@ ghost use Rattle.hint.specs.State.{Agrees, Moves, Knows, MovesOn, MovesB
 use crate::ANYWHERE;
 use crate::NOWHERE;
 use crate::order::category_of;
+use fields::byte_at;
+use fields::number_at;
+use fields::size;
+use fields::wide;
 use phrase::Daughters;
 use phrase::held;
-use table::byte_at;
-use table::number_at;
-use table::size;
-use table::wide;
 
 // Any place; one place; or no place, since the row cannot run so.
 pub(crate) enum State {

@@ -18,9 +18,9 @@ use Rattle.meaning.specs.Decode.{ruleAt, grammarOf}
 use Rattle.meaning.specs.TreeWriting.{named, statedAt, entryAt, Sound, TooMany}
 use Rattle.meaning.proofs.Walk.{named-is, found}
 use Rattle.meaning.proofs.Decoded.{several-length, valid-grammar}
-use Rattle.table.specs.declared.walk.Found.{Found}
-use Rattle.table.specs.declared.walk.Found.the-variants.{At, Unknown}
-use Rattle.table.specs.Walk.{Finds, known, unknown}
+use Rattle.rules.specs.declared.walk.Found.{Found}
+use Rattle.rules.specs.declared.walk.Found.the-variants.{At, Unknown}
+use Rattle.rules.specs.Walk.{Finds, known, unknown}
 use Rattle.phrase.specs.Phrase.{RuleOf, Decides}
 use Rattle.phrase.proofs.Fit.{instead}
 use Rattle.phrase.proofs.RuleThere.{fine}

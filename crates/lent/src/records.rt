@@ -3,9 +3,9 @@ ghost use mathlib.Core.Path.{_≡_};
 ghost use Prim.Native.Nat.{_+_, _<_};
 ghost use Rattle.meaning.specs.TreeWriting.{statedAt};
 ghost use Rattle.lent.specs.Lent.{knownOf, knownsOf, numberAt, daughtersAt};
+use fields::size;
 use phrase::Daughters;
 use phrase::Item;
-use table::size;
 
 // Number k of record i, from 0; 0 past the chart's end.
 pub(crate) fn number(chart: &[u16], i: usize, k: usize) -> u16

@@ -7,10 +7,10 @@ ghost use Rattle.lent.specs.Lent.{knownsOf, Placed, WayAt};
 use crate::records::daughters;
 use crate::records::number;
 use crate::records::stated;
+use fields::byte_at;
+use fields::size;
 use phrase::Daughters;
 use phrase::fits;
-use table::byte_at;
-use table::size;
 
 // Whether place k of record i is below the count if one of the first rank, and else 0.
 fn is_placed(chart: &[u16], count: usize, i: usize, rank: usize, k: usize) -> bool

@@ -11,7 +11,7 @@ use Rattle.meaning.specs.Grammar.{Symbol}
 use Rattle.meaning.specs.Giving.{Run, Stands, held, Gives}
 use Rattle.meaning.specs.Table.{dimensionOf, categoryOf}
 use Rattle.meaning.specs.Decode.{past, rowAt, rowEnd, rowsOf, ruleAt, grammarOf}
-use Rattle.table.specs.Walk as walk
+use Rattle.rules.specs.Walk as walk
 use Rattle.phrase.specs.Row.{Starts}
 use Rattle.phrase.specs.declared.ranges.Range.{Range as Coded}
 use Rattle.phrase.specs.declared.ranges.Join.{Join}

@@ -12,8 +12,8 @@ use crate::items::kind_at;
 use crate::items::range_at;
 use crate::rows::row_fits;
 use crate::rows::row_of;
-use table::byte_at;
-use table::size;
+use fields::byte_at;
+use fields::size;
 
 // The category that the rule wants as daughter k, from 0; 0 where it wants none.
 fn wanted_at(table: &[u8], rule: usize, k: usize) -> u16

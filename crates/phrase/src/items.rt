@@ -6,7 +6,7 @@ ghost use Rattle.meaning.specs.Range as range;
 ghost use Rattle.meaning.specs.Giving.{categories};
 ghost use Rattle.phrase.specs.Phrase.{rangeOf, itemOf, itemsOf, heldOf, itemFrom};
 use crate::ranges::Range;
-use table::size;
+use fields::size;
 
 // A category and its ranges as start and end, with the height of its lowest tree.
 pub struct Item {

@@ -14,10 +14,10 @@ use crate::ranges::Range;
 use crate::ranges::is_range;
 use crate::ranges::joined;
 use crate::ranges::same;
-use table::byte_at;
-use table::number_at;
-use table::row_end;
-use table::size;
+use fields::byte_at;
+use fields::number_at;
+use fields::size;
+use rules::row_end;
 
 // A row of a rule: the place of its bytes, or a number past the last row.
 pub enum Row {

@@ -10,10 +10,10 @@ use Rattle.meaning.specs.Decode.{wordsOf, checkInput}
 use Rattle.meaning.specs.Reading.{allowed}
 use Rattle.meaning.proofs.Determined.{words-few}
 use Rattle.meaning.proofs.Ends.{fine-table}
-use Rattle.table.specs.Views.{filled}
-use Rattle.table.specs.Walk.{Ranked, Ordered}
+use Rattle.input.specs.Views.{filled}
+use Rattle.rules.specs.Walk.{Ranked, Ordered}
 use Rattle.meaning.proofs.Words.{words-length}
-use Rattle.table.proofs.Sentence.{filled-exactly}
+use Rattle.input.proofs.Sentence.{filled-exactly}
 use Rattle.reader.specs.Records.{Ruled}
 
 -- 'more than 2,000 is taken as 2,000', of an allowance that is not 0

@@ -8,7 +8,7 @@ use Rattle.meaning.specs.Range.{Item}
 use Rattle.meaning.specs.Table.{got, checkTable, number}
 use Rattle.meaning.specs.Decode.{grammarOf}
 use Rattle.meaning.specs.Chart.{Entry, Chosen, GivenBy, knowns, shown, records}
-use Rattle.table.specs.Walk.{Ranked}
+use Rattle.rules.specs.Walk.{Ranked}
 use Rattle.store.specs.Code.{knownOf}
 use Rattle.phrase.specs.declared.items.Item.{Item as CodedItem}
 use Rattle.search.specs.Search.{All}

@@ -5,9 +5,9 @@ ghost use Rattle.meaning.specs.Table.{byte};
 ghost use Rattle.store.specs.Set.{Sorted};
 ghost use Rattle.reader.specs.Answers.{codeOf, placeOf, countOf, goalKey, Judged};
 use crate::Answer;
+use fields::byte_at;
+use fields::wide;
 use store::find;
-use table::byte_at;
-use table::wide;
 
 // The goal's key.
 fn goal_key(start: u16, n: usize) -> u64

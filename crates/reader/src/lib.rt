@@ -11,12 +11,12 @@ use crate::charting::write_chart;
 use crate::goal::yes_or_no;
 use crate::records::clear;
 use crate::room::room_of;
+use input::check_input;
+use input::read_words;
 use meaning::Refusal;
+use rules::order_rules;
 use search::search;
 use table::Verdict;
-use table::check_input;
-use table::order_rules;
-use table::read_words;
 
 mod charting;
 mod goal;

@@ -2,7 +2,7 @@
 ghost use mathlib.Core.Path.{_≡_};
 ghost use Prim.Native.Nat.{_/_, min};
 ghost use Rattle.meaning.specs.Reading.{allowed};
-use table::smaller;
+use fields::smaller;
 
 // What is allowed: 0 means 2,000, and more than that is taken as that.
 fn allowed_of(allowance: usize) -> usize

@@ -5,13 +5,13 @@ mod trying;
 
 use crate::shapes::has_shape;
 use crate::trying::combine;
+use rules::first_rule;
+use rules::rule_count;
+use rules::rule_end;
 pub use spots::Spots;
 pub use spots::first;
 pub use spots::next;
 pub use spots::spots_of;
-use table::first_rule;
-use table::rule_count;
-use table::rule_end;
 pub use trying::none_of;
 pub use trying::spots_for;
 pub use trying::top;

@@ -3,9 +3,9 @@ ghost use Prim.Native.Nat.{ℕ, _≤_};
 ghost use Rattle.meaning.specs.Table.{number};
 ghost use Rattle.phrase.specs.Phrase.{Decides, RuleOf};
 ghost use Rattle.search.specs.Likeness.{Like, LikeBefore};
-use table::byte_at;
-use table::first_rule;
-use table::rule_end;
+use fields::byte_at;
+use rules::first_rule;
+use rules::rule_end;
 
 // Whether two rules are equal but for their function numbers.
 fn same_shape(table: &[u8], a: usize, b: usize) -> bool

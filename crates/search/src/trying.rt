@@ -15,6 +15,9 @@ use crate::spots::Spots;
 use crate::spots::first;
 use crate::spots::next;
 use crate::spots::spots_of;
+use fields::byte_at;
+use fields::size;
+use fields::wide;
 use hint::Turn;
 use hint::Wants;
 use hint::meets;
@@ -28,9 +31,6 @@ use phrase::Range;
 use phrase::kinds;
 use phrase::row_next;
 use phrase::row_of;
-use table::byte_at;
-use table::size;
-use table::wide;
 
 // The item of a code.
 pub fn unpack(c: u64) -> Item

@@ -16,10 +16,10 @@ use Rattle.meaning.specs.Decode.{past, several, ruleAt, ruleEnd, firstRule, gra
 use Rattle.meaning.specs.Accepted.{FineRule, FineTable}
 use Rattle.meaning.specs.TreeWriting.{named}
 use Rattle.meaning.proofs.Places.{rule-grows′, first-is}
-use Rattle.table.specs.declared.walk.Found.{Found}
-use Rattle.table.specs.declared.walk.Found.the-variants.{At, Unknown}
-use Rattle.table.specs.Walk.{Finds, known, unknown}
-use Rattle.table.proofs.Once.{finds-once}
+use Rattle.rules.specs.declared.walk.Found.{Found}
+use Rattle.rules.specs.declared.walk.Found.the-variants.{At, Unknown}
+use Rattle.rules.specs.Walk.{Finds, known, unknown}
+use Rattle.rules.proofs.Once.{finds-once}
 use Rattle.sentence.specs.Nodes.{seek, placeFor, ruleOf, Within, taken}
 
 pub rule-of : (t : List ℕ) (p : ℕ) → 1 ≤ p → ruleOf t p ≡ some (ruleAt t p)

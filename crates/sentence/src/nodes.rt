@@ -6,10 +6,10 @@ ghost use lib.ListN.{length, getD};
 ghost use Rattle.meaning.specs.Table.{got, checkTable};
 ghost use Rattle.sentence.specs.Nodes as spec;
 ghost use Rattle.sentence.specs.Nodes.{placeFor, Within};
-use table::Found;
-use table::byte_at;
-use table::find_rule;
-use table::size;
+use fields::byte_at;
+use fields::size;
+use rules::Found;
+use rules::find_rule;
 
 // The place of the rule with a function number; 0 where there is none.
 fn place_for(table: &[u8], function: u16) -> usize

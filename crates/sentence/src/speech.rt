@@ -6,9 +6,9 @@ ghost use Rattle.sentence.specs.Nodes.{Within};
 ghost use Rattle.sentence.specs.Speech.{heard, rowPlace, spelled, below, Near, Close, Spoke};
 use crate::nodes::daughter;
 use crate::nodes::node_at;
-use table::byte_at;
-use table::number_at;
-use table::size;
+use fields::byte_at;
+use fields::number_at;
+use fields::size;
 
 // Where row c of the rule at a place starts.
 fn row_place(table: &[u8], rule: usize, c: usize) -> usize

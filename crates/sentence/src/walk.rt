@@ -4,8 +4,8 @@ ghost use Prim.Native.Nat.{_+_, _≤_};
 ghost use lib.ListN.{length};
 ghost use Rattle.meaning.specs.Table.{rankOf};
 ghost use Rattle.sentence.specs.Nodes.{Within, walked, walkedOf, Pushed};
-use table::byte_at;
-use table::size;
+use fields::byte_at;
+use fields::size;
 
 // Whether a list is one tree, or the first node at which something is wrong.
 pub enum Walked {

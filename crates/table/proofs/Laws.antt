@@ -1,6 +1,6 @@
--- What the proofs of the table's reading share.
+-- A search that counts down, and the function numbers before a rule.
 use Prim.Native.Nat.{ℕ, zero, suc, _+_, _-_, _≤_, _<_}
-use mathlib.Core.Path.{_≡_, sym, ap, _∙_, refl}
+use mathlib.Core.Path.{_≡_, ap, _∙_, refl}
 use mathlib.Core.List.{List, _∷_}
 use mathlib.Core.Bool.{Bool, true, false, _||_}
 use lib.ListN.{length, getD, set}
@@ -8,38 +8,10 @@ use lib.Seq.{getD-set-same, getD-set-other}
 use lib.Dec.{eqb}
 use native.Mathlib.Omega.{arith}
 use native.Mathlib.Numerals.{add-one}
-use Rattle.meaning.specs.declared.Refusal.{Refusal}
-use Rattle.meaning.specs.Table.{Got, got, refused, _>>=_, times, any, member}
+use Rattle.meaning.specs.Table.{any, member}
 use Rattle.table.specs.Views.{firsts}
 
--- what a callee answered, where a match has shown it
-pub knew : {A B : Type 0} (f : A → B) {r v : A} {x : B} → f r ≡ x → r ≡ v → x ≡ f v
-knew f e g = sym e ∙ ap f g
-
-pub knew-with : {A B C : Type 0} (f : A → C → B) (z : C) {r v : A} {x : B} → f r z ≡ x → r ≡ v → x ≡ f v z
-knew-with f z e g = sym e ∙ ap (λ a. f a z) g
-
--- what a callee's flag says, where a test has shown it
-pub told : {A : Type 0} {r x b : A} → r ≡ x → r ≡ b → x ≡ b
-told e g = sym e ∙ g
-
--- a loop that counts down, each turn a step of `times`
-module _ {S : Type 0} (f : S → Got S) (n : ℕ) (s : S) where
-  pub none-left : n ≡ 0 → times n f s ≡ got s
-  unfolding times
-  none-left e = rw e
-
-  turn : 0 < n → times n f s ≡ f s >>= times (n - 1) f
-  unfolding times
-  turn h = let e : n ≡ suc (n - 1) = omega arith in ap (λ (m : ℕ). times m f s) e
-
-  pub turn-on : (s′ : S) → 0 < n → f s ≡ got s′ → times n f s ≡ times (n - 1) f s′
-  turn-on s′ h e = turn h ∙ rw e
-
-  pub turn-out : (r : Refusal) → 0 < n → f s ≡ refused r → times n f s ≡ refused r
-  turn-out r h e = turn h ∙ rw e
-
--- the same for a search that counts down
+-- a search that counts down
 module _ (p : ℕ → Bool) (n : ℕ) where
   pub any-none : n ≡ 0 → any n p ≡ false
   unfolding any

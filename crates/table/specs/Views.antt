@@ -1,9 +1,9 @@
 -- What the code's enums and arrays say, in the words of meaning's definitions. Nothing here is a rule of its own.
 use Prim.Native.Nat.{ℕ, zero, suc, _≤_, _<_}
 use mathlib.Core.Path.{_≡_}
-use mathlib.Core.List.{List, [], _∷_, _++_}
+use mathlib.Core.List.{List, [], _∷_}
 use mathlib.Core.Bool.{Bool, false}
-use lib.ListN.{length, getD, take, drop}
+use lib.ListN.{length, getD}
 use Rattle.meaning.specs.declared.Refusal.the-variants.{Short}
 use Rattle.meaning.specs.Table.{Got, got, refused, Used, rankOf, daughterOf, dimensionOf}
 use Rattle.table.specs.declared.cursor.Field.{Field}
@@ -64,7 +64,3 @@ pub record Small (t : List ℕ) (rule : ℕ) : Type 0 where
   pub within : rule < length t
   pub rank : rankOf t rule ≤ 3
   pub dims : (k : ℕ) → 1 ≤ k → k ≤ rankOf t rule → dimensionOf t (daughterOf t rule k) ≤ 3
-
--- a lent slice after numbers were written into it from the left, as many as it holds; the rest of it stays as lent
-unfoldable pub filled : List ℕ → List ℕ → List ℕ
-filled ns before = take (length before) ns ++ drop (length ns) before

@@ -3,10 +3,10 @@ ghost use mathlib.Core.Path.{_≡_};
 ghost use Rattle.meaning.specs.Table as spec;
 ghost use Rattle.meaning.specs.Table.{times};
 ghost use Rattle.table.specs.Views.{fieldOf, symbolOf, stepOf};
-use crate::bytes::byte_at;
-use crate::bytes::cut;
-use crate::bytes::number_at;
-use crate::bytes::outside;
+use fields::byte_at;
+use fields::cut;
+use fields::number_at;
+use fields::outside;
 use meaning::Refusal;
 
 // A place of the table, by value: each field takes it and hands back the next.

@@ -2,11 +2,11 @@
 ghost use mathlib.Core.Path.{_≡_};
 ghost use Rattle.meaning.specs.Table as spec;
 ghost use Rattle.table.specs.Views.{stepOf};
-use crate::bytes::byte_at;
-use crate::bytes::number_at;
-use crate::bytes::outside;
 use crate::cursor::Cursor;
 use crate::cursor::Step;
+use fields::byte_at;
+use fields::number_at;
+use fields::outside;
 use meaning::Refusal;
 
 // The nine bytes of the header, in their order.

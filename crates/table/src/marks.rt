@@ -7,9 +7,9 @@ ghost use Rattle.meaning.specs.Table as spec;
 ghost use Rattle.meaning.specs.Table.{any};
 ghost use Rattle.table.specs.Views.{verdictWith, usedOf, Square, Small};
 use crate::Verdict;
-use crate::bytes::byte_at;
-use crate::bytes::outside;
-use crate::bytes::size;
+use fields::byte_at;
+use fields::outside;
+use fields::size;
 use meaning::Refusal;
 
 // Whether constituent c of daughter k is used, both from 0.

@@ -4,12 +4,12 @@ ghost use Rattle.meaning.specs.Table as spec;
 ghost use Rattle.meaning.specs.Table.{times};
 ghost use Rattle.table.specs.Views.{stepWith, usedOf, Square, Small};
 use crate::Verdict;
-use crate::bytes::size;
 use crate::cursor::Cursor;
 use crate::cursor::Field;
 use crate::cursor::Step;
 use crate::cursor::SymbolField;
 use crate::marks::part;
+use fields::size;
 use meaning::Refusal;
 
 impl Cursor {

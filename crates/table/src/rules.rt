@@ -5,13 +5,13 @@ ghost use Prim.Native.Nat.{_≤_};
 ghost use Rattle.meaning.specs.Table as spec;
 ghost use Rattle.meaning.specs.Accepted.{Dims, Headed};
 ghost use Rattle.table.specs.Views.{stepOf, stepWith, firsts};
-use crate::bytes::byte_at;
-use crate::bytes::number_at;
-use crate::bytes::size;
 use crate::cursor::Cursor;
 use crate::cursor::Field;
 use crate::cursor::Step;
 use crate::marks::missing;
+use fields::byte_at;
+use fields::number_at;
+use fields::size;
 use meaning::Refusal;
 
 // Whether f is one of the first count function numbers.

@@ -10,9 +10,9 @@ use Rattle.meaning.specs.Decode.{ruleAt}
 use Rattle.meaning.specs.TreeWriting.{rankOf}
 use Rattle.meaning.proofs.Ends.{fine-table}
 use Rattle.meaning.proofs.Decoded.{several-length}
-use Rattle.table.specs.declared.walk.Found.{Found}
-use Rattle.table.specs.declared.walk.Found.the-variants.{At, Unknown}
-use Rattle.table.specs.Walk.{Finds, known, unknown}
+use Rattle.rules.specs.declared.walk.Found.{Found}
+use Rattle.rules.specs.declared.walk.Found.the-variants.{At, Unknown}
+use Rattle.rules.specs.Walk.{Finds, known, unknown}
 use Rattle.tree.specs.Writing.{rank}
 
 daughters-many : (t : List ℕ) (p : ℕ) → length (ruleAt t p .daughters) ≡ byte t (p + 3)

@@ -9,7 +9,7 @@ ghost use Rattle.tree.specs.Writing.{Falling};
 ghost use Rattle.tree.specs.Answers.{codeOf, placeOf, countOf, Fitted, Rooted};
 use crate::answer::TreeAnswer;
 use crate::writing::write;
-use table::smaller;
+use fields::smaller;
 
 // Copies numbers to the front of a slice.
 fn put(out: &mut [u16], numbers: &[u16])

@@ -7,11 +7,11 @@ ghost use Rattle.meaning.specs.Decode.{checkInput};
 ghost use Rattle.meaning.specs.TreeWriting.{TreeWritten};
 ghost use Rattle.tree.specs.Answers.{codeOf, placeOf, countOf, Judged};
 use crate::fitting::write_root;
+use input::check_input;
+use input::read_words;
 use lent::ChartAnswer;
 use lent::check_chart;
 use table::Verdict;
-use table::check_input;
-use table::read_words;
 
 mod answer;
 mod fitting;

@@ -5,10 +5,10 @@ ghost use Rattle.meaning.specs.Table.{got, checkTable};
 ghost use Rattle.meaning.specs.Decode.{grammarOf};
 ghost use Rattle.meaning.specs.TreeWriting.{nodes};
 ghost use Rattle.tree.specs.Writing.{rank, Falling, Wrote};
-use table::Found;
-use table::byte_at;
-use table::find_rule;
-use table::size;
+use fields::byte_at;
+use fields::size;
+use rules::Found;
+use rules::find_rule;
 
 // How many daughters the rule with a function number has; none where the table has no such rule.
 fn rank_of(table: &[u8], function: u16) -> usize

@@ -10,8 +10,8 @@ use Rattle.chosen.proofs.choice_of.Lts as lts
 use Rattle.chosen.proofs.short.Reads as short-reads
 use Rattle.chosen.proofs.walk.walk.Reads as walk-reads
 use Rattle.search.proofs.unpack.Reads as unpack-reads
-use Rattle.table.proofs.number_at.Reads as number-at-reads
-use Rattle.table.proofs.size.Reads as size-reads
+use Rattle.fields.proofs.number_at.Reads as number-at-reads
+use Rattle.fields.proofs.size.Reads as size-reads
 
 unpack-requires : tie.Need-unpack-requires
 unpack-requires c κs = code-small (c .before .before .before .before .pre)

@@ -15,9 +15,9 @@ use Rattle.search.proofs.level.Reads as reads
 use Rattle.search.proofs.level.Lts as lts
 use Rattle.search.proofs.shapes.has_shape.Reads as has-shape-reads
 use Rattle.search.proofs.trying.combine.Reads as combine-reads
-use Rattle.table.proofs.first_rule.Reads as first-rule-reads
-use Rattle.table.proofs.rule_count.Reads as rule-count-reads
-use Rattle.table.proofs.rule_end.Reads as rule-end-reads
+use Rattle.rules.proofs.first_rule.Reads as first-rule-reads
+use Rattle.rules.proofs.rule_count.Reads as rule-count-reads
+use Rattle.rules.proofs.rule_end.Reads as rule-end-reads
 
 abbrev Inv-loop : tie.InvT-loop
 Inv-loop table words known fresh₀ h next height count rule₀ m₀ i₀ fresh rule m i = (i ≤ count) × (rule ≡ place table i) × ByFirst table words known h fresh₀ i fresh m

@@ -1,6 +1,6 @@
 use mathlib.Core.Path.{refl}
 use borrow.Author.Needs.{needs}
-use Rattle.table.proofs.Laws.{knew}
+use Rattle.fields.proofs.Laws.{knew}
 use Rattle.sentence.specs.Nodes.{walkedOf}
 use Rattle.sentence.specs.Answers.{astray, sound}
 use Rattle.sentence.proofs.judge.Statement.{statement}

@@ -1,7 +1,7 @@
 use borrow.Author.Needs.{needs}
 use Rattle.meaning.specs.SentenceWriting.{bad-table}
 use Rattle.table.specs.Views.{verdictOf}
-use Rattle.table.proofs.Laws.{knew}
+use Rattle.fields.proofs.Laws.{knew}
 use Rattle.sentence.proofs.sentence.Statement.{statement}
 use Rattle.sentence.proofs.sentence.Tie as tie
 

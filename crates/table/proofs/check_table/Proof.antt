@@ -11,7 +11,7 @@ use borrow.Author.Tests.{lt-ltb, le-ltb, eq-eqb, ne-eqb}
 use Rattle.meaning.specs.declared.Refusal.the-variants.{Trailing}
 use Rattle.meaning.specs.Table.{got, refuse-if, _>>=_, times, byte, number, header, dimension, dimensionOf, rules, checkTable}
 use Rattle.table.specs.Views.{stepOf}
-use Rattle.table.proofs.Laws.{knew, told}
+use Rattle.fields.proofs.Laws.{knew, told}
 use Rattle.meaning.proofs.Fields.{header-there, dims-there}
 use Rattle.table.proofs.check_table.Statement.{statement}
 use Rattle.table.proofs.check_table.Tie as tie

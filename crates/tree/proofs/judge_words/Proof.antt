@@ -1,7 +1,7 @@
 use borrow.Author.Needs.{needs}
 use mathlib.Core.Path.{_∙_}
 use Rattle.meaning.proofs.Determined.{table-accepted}
-use Rattle.table.proofs.Sentence.{filled-exactly}
+use Rattle.input.proofs.Sentence.{filled-exactly}
 use Rattle.tree.proofs.Judging.{tree-written}
 use Rattle.tree.proofs.judge_words.Statement.{statement}
 use Rattle.tree.proofs.judge_words.Tie as tie

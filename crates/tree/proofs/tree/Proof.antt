@@ -1,7 +1,7 @@
 use borrow.Author.Needs.{needs}
 use Rattle.meaning.specs.TreeWriting.{bad-input}
 use Rattle.table.specs.Views.{verdictOf}
-use Rattle.table.proofs.Laws.{knew}
+use Rattle.fields.proofs.Laws.{knew}
 use Rattle.tree.proofs.tree.Statement.{statement}
 use Rattle.tree.proofs.tree.Tie as tie
 

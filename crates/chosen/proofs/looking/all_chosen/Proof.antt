@@ -9,7 +9,7 @@ use Rattle.chosen.proofs.looking.all_chosen.Reads as reads
 use Rattle.chosen.proofs.looking.all_chosen.Lts as lts
 use Rattle.phrase.proofs.fits.Reads as fits-reads
 use Rattle.search.proofs.top.Reads as top-reads
-use Rattle.table.proofs.size.Reads as size-reads
+use Rattle.fields.proofs.size.Reads as size-reads
 
 top-requires : tie.Need-top-requires
 top-requires c κs = search needs

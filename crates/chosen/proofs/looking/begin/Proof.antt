@@ -9,7 +9,7 @@ use Rattle.chosen.proofs.looking.begin.Reads as reads
 use Rattle.chosen.proofs.looking.begin.Lts as lts
 use Rattle.chosen.proofs.looking.look_for.Reads as look-for-reads
 use Rattle.chosen.proofs.looking.only.Reads as only-reads
-use Rattle.table.proofs.byte_at.Reads as byte-at-reads
+use Rattle.fields.proofs.byte_at.Reads as byte-at-reads
 
 add-third : tie.Need-add-third
 add-third c = omega (arith, fine _ _ (c .before .before .before .pre .0) .within)

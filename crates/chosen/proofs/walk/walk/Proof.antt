@@ -22,8 +22,8 @@ use Rattle.chosen.proofs.looking.taken.Reads as taken-reads
 use Rattle.search.proofs.first.Reads as first-reads
 use Rattle.search.proofs.next.Reads as next-reads
 use Rattle.search.proofs.none_of.Reads as none-of-reads
-use Rattle.table.proofs.byte_at.Reads as byte-at-reads
-use Rattle.table.proofs.size.Reads as size-reads
+use Rattle.fields.proofs.byte_at.Reads as byte-at-reads
+use Rattle.fields.proofs.size.Reads as size-reads
 
 abbrev Inv-loop3 : tie.InvT-loop3
 Inv-loop3 table words order known goal found₀ f rule fourth d la sa a da lb sb b db lc sc c₀ found c =

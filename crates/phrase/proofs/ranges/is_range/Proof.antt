@@ -1,7 +1,7 @@
 -- `phrase::ranges::is_range` meets its contract: its tests are the definition's, in its order.
 use borrow.Author.Needs.{needs}
 use borrow.Author.Tests.{lt-ltb, le-ltb, le-leb, lt-leb}
-use Rattle.table.proofs.Laws.{told}
+use Rattle.fields.proofs.Laws.{told}
 use Rattle.phrase.proofs.Values.{and-false}
 use Rattle.phrase.proofs.ranges.is_range.Statement.{statement}
 use Rattle.phrase.proofs.ranges.is_range.Tie as tie

@@ -2,7 +2,7 @@
 use borrow.Author.Needs.{needs}
 use borrow.Author.Tests.{eq-eqb, ne-eqb}
 use Rattle.meaning.specs.Range.{joined}
-use Rattle.table.proofs.Laws.{told}
+use Rattle.fields.proofs.Laws.{told}
 use Rattle.phrase.proofs.ranges.joined.Statement.{statement}
 use Rattle.phrase.proofs.ranges.joined.Tie as tie
 

@@ -1,6 +1,6 @@
 -- `phrase::rows::part` meets its contract: it asks the test that the definition asks.
 use borrow.Author.Needs.{needs}
-use Rattle.table.proofs.Laws.{told}
+use Rattle.fields.proofs.Laws.{told}
 use Rattle.phrase.proofs.rows.part.Statement.{statement}
 use Rattle.phrase.proofs.rows.part.Tie as tie
 

@@ -1,7 +1,7 @@
 -- `phrase::rows::row_at` meets its contract: a range of the row that starts here is what the row makes from here.
 use borrow.Author.Needs.{needs}
 use Rattle.meaning.specs.Decode.{rowAt}
-use Rattle.table.proofs.Laws.{knew}
+use Rattle.fields.proofs.Laws.{knew}
 use Rattle.phrase.specs.Phrase.{joinOf}
 use Rattle.phrase.proofs.Fit.{made-not, made-here, made-there}
 use Rattle.phrase.proofs.rows.row_at.Statement.{statement}

@@ -1,6 +1,6 @@
 -- `phrase::rows::row_fits` meets its contract: a range of the row is what the row makes from that range's own start.
 use borrow.Author.Needs.{needs}
-use Rattle.table.proofs.Laws.{knew}
+use Rattle.fields.proofs.Laws.{knew}
 use Rattle.phrase.specs.Phrase.{joinOf, rangeOf, fails}
 use Rattle.phrase.proofs.Fit.{empty-fits, not-made, made-fits}
 use Rattle.phrase.proofs.rows.row_fits.Statement.{statement}

@@ -7,7 +7,7 @@ use borrow.Author.Needs.{needs}
 use Rattle.meaning.specs.Range.{none}
 use Rattle.meaning.specs.Decode.{rowAt}
 use Rattle.meaning.proofs.Places.{row-is}
-use Rattle.table.proofs.Laws.{knew}
+use Rattle.fields.proofs.Laws.{knew}
 use Rattle.phrase.specs.Row.{eval}
 use Rattle.phrase.specs.Phrase.{rangeOf, joinOf, heldOf}
 use Rattle.phrase.proofs.Turns.{left-of, whole-row, eval-end, eval-off, eval-apart, eval-on}

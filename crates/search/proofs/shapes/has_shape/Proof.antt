@@ -14,8 +14,8 @@ use Rattle.search.proofs.shapes.has_shape.Tie as tie
 use Rattle.search.proofs.shapes.has_shape.Reads as reads
 use Rattle.search.proofs.shapes.has_shape.Lts as lts
 use Rattle.search.proofs.shapes.same_shape.Reads as same-shape-reads
-use Rattle.table.proofs.first_rule.Reads as first-rule-reads
-use Rattle.table.proofs.rule_end.Reads as rule-end-reads
+use Rattle.rules.proofs.first_rule.Reads as first-rule-reads
+use Rattle.rules.proofs.rule_end.Reads as rule-end-reads
 
 abbrev Inv-loop : tie.InvT-loop
 Inv-loop table rule n at₀ i₀ at i = (i ≤ n) × (at ≡ past i (ruleEnd table) (firstRule table)) × (LikeBefore table rule i → ⊥)

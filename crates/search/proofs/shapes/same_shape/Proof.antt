@@ -9,8 +9,8 @@ use Rattle.search.proofs.shapes.same_shape.Statement.{statement}
 use Rattle.search.proofs.shapes.same_shape.Tie as tie
 use Rattle.search.proofs.shapes.same_shape.Reads as reads
 use Rattle.search.proofs.shapes.same_shape.Lts as lts
-use Rattle.table.proofs.byte_at.Reads as byte-at-reads
-use Rattle.table.proofs.rule_end.Reads as rule-end-reads
+use Rattle.fields.proofs.byte_at.Reads as byte-at-reads
+use Rattle.rules.proofs.rule_end.Reads as rule-end-reads
 
 abbrev Inv-loop : tie.InvT-loop
 Inv-loop table a b end size k₀ k = (2 ≤ k) × SameTo table a b k

@@ -8,8 +8,8 @@ use Rattle.search.proofs.trying.combine.Lts as lts
 use Rattle.search.proofs.trying.blank_item.Reads as blank-item-reads
 use Rattle.search.proofs.trying.extend.Reads as extend-reads
 use Rattle.search.proofs.trying.none_of.Reads as none-of-reads
-use Rattle.table.proofs.byte_at.Reads as byte-at-reads
-use Rattle.table.proofs.size.Reads as size-reads
+use Rattle.fields.proofs.byte_at.Reads as byte-at-reads
+use Rattle.fields.proofs.size.Reads as size-reads
 
 add-fourth : tie.Need-add-fourth
 add-fourth c = omega (arith, head-in _ _ (c .before .before .before .before .pre .1 .there))

@@ -5,7 +5,7 @@ use Rattle.search.proofs.trying.key_of.Statement.{statement}
 use Rattle.search.proofs.trying.key_of.Tie as tie
 use Rattle.search.proofs.trying.key_of.Reads as reads
 use Rattle.search.proofs.trying.key_of.Lts as lts
-use Rattle.table.proofs.wide.Reads as wide-reads
+use Rattle.fields.proofs.wide.Reads as wide-reads
 
 mul-a : tie.Need-mul-a
 mul-a c = search needs

@@ -10,7 +10,7 @@ use Rattle.search.proofs.trying.offer.Lts as lts
 use Rattle.phrase.proofs.kinds.Reads as kinds-reads
 use Rattle.search.proofs.trying.offer_rows.Reads as offer-rows-reads
 use Rattle.search.proofs.trying.top.Reads as top-reads
-use Rattle.table.proofs.size.Reads as size-reads
+use Rattle.fields.proofs.size.Reads as size-reads
 
 top-requires : tie.Need-top-requires
 top-requires c κs = search needs

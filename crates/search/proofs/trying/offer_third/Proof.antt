@@ -19,7 +19,7 @@ use Rattle.phrase.proofs.row_next.Reads as row-next-reads
 use Rattle.phrase.proofs.row_of.Reads as row-of-reads
 use Rattle.search.proofs.enter.Reads as enter-reads
 use Rattle.search.proofs.trying.key_of.Reads as key-of-reads
-use Rattle.table.proofs.byte_at.Reads as byte-at-reads
+use Rattle.fields.proofs.byte_at.Reads as byte-at-reads
 
 abbrev Inv-loop : tie.InvT-loop
 Inv-loop table words rule d p q known fresh₀ n h third category row m₀ from₀ fresh m from = (length fresh ≡ length fresh₀) × (m ≤ length fresh₀) × (from ≤ 65) × Filled known h (Passed words d (rowOf table rule 2) (λ r x. unpacked x ≡ record { category = categoryOf table rule; one = rangeOf p; two = rangeOf q; three = r }) from) fresh₀ n fresh m

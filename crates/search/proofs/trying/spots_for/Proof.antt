@@ -7,7 +7,7 @@ use Rattle.search.proofs.trying.spots_for.Reads as reads
 use Rattle.search.proofs.trying.spots_for.Lts as lts
 use Rattle.hint.proofs.reach_of.Reads as reach-of-reads
 use Rattle.search.proofs.spots.spots_of.Reads as spots-of-reads
-use Rattle.table.proofs.byte_at.Reads as byte-at-reads
+use Rattle.fields.proofs.byte_at.Reads as byte-at-reads
 
 add-place : tie.Need-add-place
 add-place c = omega (arith, place-in _ _ (c .before .before .pre .0) _ (c .before .before .pre .1))

@@ -4,7 +4,7 @@ use Rattle.sentence.proofs.nodes.place_for.Statement.{statement}
 use Rattle.sentence.proofs.nodes.place_for.Tie as tie
 use Rattle.sentence.proofs.nodes.place_for.Reads as reads
 use Rattle.sentence.proofs.nodes.place_for.Lts as lts
-use Rattle.table.proofs.find_rule.Reads as find-rule-reads
+use Rattle.rules.proofs.find_rule.Reads as find-rule-reads
 
 find-rule-requires : tie.Need-find-rule-requires
 find-rule-requires c κs = search needs

@@ -19,9 +19,9 @@ use Rattle.sentence.proofs.speech.say.Reads as say
 use Rattle.sentence.proofs.speech.say.Kinds as say-kinds
 use Rattle.sentence.proofs.speech.symbol.Reads as symbol
 use Rattle.sentence.proofs.speech.symbol.Kinds as symbol-kinds
-use Rattle.table.proofs.byte_at.Reads as byte-at-reads
-use Rattle.table.proofs.number_at.Reads as number-at-reads
-use Rattle.table.proofs.size.Reads as size-reads
+use Rattle.fields.proofs.byte_at.Reads as byte-at-reads
+use Rattle.fields.proofs.number_at.Reads as number-at-reads
+use Rattle.fields.proofs.size.Reads as size-reads
 use Rattle.sentence.proofs.speech.+say+symbol.{statement}
 use Rattle.sentence.proofs.speech.+say+symbol.Lts-say as say-lts
 use Rattle.sentence.proofs.speech.+say+symbol.Lts-symbol as symbol-lts

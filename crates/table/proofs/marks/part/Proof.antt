@@ -7,7 +7,7 @@ use mathlib.Core.Path.{_≡_, sym, _∙_}
 use borrow.Author.Tests.{lt-ltb, le-ltb}
 use Rattle.meaning.specs.declared.Refusal.the-variants.{Twice}
 use Rattle.meaning.specs.Table.{got, refuse-if, _>>_, part, mark, Used}
-use Rattle.table.proofs.Laws.{told}
+use Rattle.fields.proofs.Laws.{told}
 use Rattle.table.proofs.Known.{part-inside}
 use Rattle.table.proofs.marks.part.Statement.{statement}
 use Rattle.table.proofs.marks.part.Tie as tie

@@ -13,7 +13,7 @@ use borrow.Fn.PlainCycle.{Measures, is, falls, and}
 use Rattle.tree.proofs.writing.write.Reads as write
 use Rattle.tree.proofs.writing.write.Kinds as write-kinds
 use Rattle.tree.proofs.writing.+write.Lts-write as write-lts
-use Rattle.table.proofs.size.Reads as size-reads
+use Rattle.fields.proofs.size.Reads as size-reads
 use Rattle.tree.proofs.writing.rank_of.Reads as rank-of-reads
 use Rattle.tree.proofs.writing.+write.{statement}
 use Rattle.tree.proofs.writing.+write.Tie.{close}

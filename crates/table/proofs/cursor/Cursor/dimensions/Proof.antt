@@ -1,7 +1,7 @@
 use borrow.Author.Needs.{needs}
 use native.Mathlib.Omega.{arith}
 use mathlib.Core.Path.{_≡_, sym, _∙_}
-use Rattle.table.proofs.Laws.{knew, none-left, turn-on, turn-out}
+use Rattle.fields.proofs.Laws.{knew, none-left, turn-on, turn-out}
 use Rattle.meaning.specs.Table.{times, dimension}
 use Rattle.table.specs.Views.{stepOf}
 use Rattle.table.proofs.cursor.Cursor.dimensions.Statement.{statement}

@@ -1,5 +1,5 @@
 use borrow.Author.Needs.{needs}
-use Rattle.table.proofs.Laws.{knew, told}
+use Rattle.fields.proofs.Laws.{knew, told}
 use Rattle.meaning.specs.Table.{outside, byte, limited}
 use Rattle.table.specs.Views.{fieldOf}
 use Rattle.table.proofs.cursor.Cursor.limited.Statement.{statement}

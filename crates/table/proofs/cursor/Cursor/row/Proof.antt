@@ -1,6 +1,6 @@
 use borrow.Author.Needs.{needs}
 use borrow.Author.Tests.{lt-ltb, le-ltb}
-use Rattle.table.proofs.Laws.{knew}
+use Rattle.fields.proofs.Laws.{knew}
 use Rattle.meaning.specs.Table.{byte, row}
 use Rattle.table.specs.Views.{fieldOf}
 use Rattle.table.proofs.cursor.Cursor.row.Statement.{statement}

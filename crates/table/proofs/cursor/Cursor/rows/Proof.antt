@@ -1,7 +1,7 @@
 use borrow.Author.Needs.{needs}
 use native.Mathlib.Omega.{arith}
 use mathlib.Core.Path.{_≡_, sym, _∙_, refl}
-use Rattle.table.proofs.Laws.{none-left, turn-on, turn-out, knew-with}
+use Rattle.fields.proofs.Laws.{none-left, turn-on, turn-out, knew-with}
 use Rattle.meaning.specs.Table.{times, row, rule}
 use Rattle.table.specs.Views.{stepWith, usedOf, Square}
 use Rattle.table.proofs.cursor.Cursor.rows.Statement.{statement}

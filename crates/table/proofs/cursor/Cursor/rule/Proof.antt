@@ -1,5 +1,5 @@
 use borrow.Author.Needs.{needs}
-use Rattle.table.proofs.Laws.{knew}
+use Rattle.fields.proofs.Laws.{knew}
 use Rattle.meaning.specs.Table.{rule}
 use Rattle.table.specs.Views.{stepOf}
 use Rattle.meaning.proofs.Fields.{headed}

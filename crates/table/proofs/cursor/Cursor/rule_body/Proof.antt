@@ -1,5 +1,5 @@
 use borrow.Author.Needs.{needs}
-use Rattle.table.proofs.Laws.{knew, told, knew-with}
+use Rattle.fields.proofs.Laws.{knew, told, knew-with}
 use Rattle.meaning.specs.Table.{missing, ruleBody}
 use Rattle.table.specs.Views.{stepOf, stepWith}
 use Rattle.table.proofs.Known.{small-there}

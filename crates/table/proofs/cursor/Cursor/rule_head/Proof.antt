@@ -1,6 +1,6 @@
 use borrow.Author.Needs.{needs}
 use borrow.Author.Tests.{eq-eqb, ne-eqb}
-use Rattle.table.proofs.Laws.{knew, told}
+use Rattle.fields.proofs.Laws.{knew, told}
 use Rattle.meaning.specs.Table.{number, rank, category, ruleHead}
 use Rattle.table.specs.Views.{fieldOf, stepOf}
 use Rattle.table.proofs.cursor.Cursor.rule_head.Statement.{statement}

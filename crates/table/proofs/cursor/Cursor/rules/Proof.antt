@@ -4,7 +4,8 @@ use mathlib.Core.Path.{_≡_, _∙_, refl}
 use Prim.Native.Nat.{_+_, _-_, _≤_}
 use lib.ListN.{length, length-set}
 use mathlib.Core.List.{[]}
-use Rattle.table.proofs.Laws.{none-left, turn-on, turn-out, knew-with, firsts-set}
+use Rattle.fields.proofs.Laws.{none-left, turn-on, turn-out, knew-with}
+use Rattle.table.proofs.Laws.{firsts-set}
 use Rattle.meaning.specs.Table.{times, rules, rule}
 use Rattle.table.specs.Views.{stepWith, firsts}
 use Rattle.table.proofs.cursor.Cursor.rules.Statement.{statement}

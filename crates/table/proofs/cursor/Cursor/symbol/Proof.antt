@@ -3,7 +3,7 @@ use native.Mathlib.Omega.{arith}
 use borrow.Author.Tests.{eq-eqb, ne-eqb}
 use Prim.Native.Nat.{_≤_}
 use denote.Ref.{now}
-use Rattle.table.proofs.Laws.{knew, knew-with}
+use Rattle.fields.proofs.Laws.{knew, knew-with}
 use Rattle.meaning.specs.Table.{word, part, symbol}
 use Rattle.table.specs.Views.{symbolOf, verdictWith}
 use Rattle.meaning.proofs.Fields.{symbol-there}

@@ -5,7 +5,7 @@ use Prim.Native.Nat.{_+_, _≤_}
 use lib.ListN.{length}
 use denote.Ref.{now}
 use Rattle.meaning.specs.Table.{symbolField}
-use Rattle.table.proofs.Laws.{told}
+use Rattle.fields.proofs.Laws.{told}
 use Rattle.table.proofs.cursor.Cursor.symbol_field.Statement.{statement}
 use Rattle.table.proofs.cursor.Cursor.symbol_field.Tie as tie
 

@@ -1,0 +1,2 @@
+-- Laws that the proofs of all readers share.
+pub mod Laws

@@ -1,0 +1,2 @@
+-- Laws of a sentence's words.
+pub mod Sentence

@@ -1,0 +1,2 @@
+-- What the walks over an accepted table answer.
+pub mod Walk

@@ -94,10 +94,10 @@ module _ (P : Range → Type 0) (from start : ℕ) where
 
 -- the search begins and ends where `starts` says
 module _ (ws : List ℕ) (d : Daughters) (ss : List Symbol) (from : ℕ) where
-  pub begins : (first start : ℕ) → first ≡ starts ws (heldOf d) ss .first → ((n : ℕ) → from ≤ n → first ≤ n → start ≤ n) → NoneUpTo (Has ws d ss) from start
+  pub begins : (first start : ℕ) → first ≡ starts ws (heldOf d) 0 ss .first → ((n : ℕ) → from ≤ n → first ≤ n → start ≤ n) → NoneUpTo (Has ws d ss) from start
   begins first start e f = λ q h l. f (q .from) l (omega (arith, run-starts ws (heldOf d) h))
 
-  pub ends-by : (end : ℕ) → end ≡ starts ws (heldOf d) ss .end → (q : Range) → Has ws d ss q → q .from < end
+  pub ends-by : (end : ℕ) → end ≡ starts ws (heldOf d) 0 ss .end → (q : Range) → Has ws d ss q → q .from < end
   ends-by end e q h = omega (arith, run-starts ws (heldOf d) h)
 
 -- a range that a row can have is within the sentence

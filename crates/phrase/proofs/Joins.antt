@@ -50,7 +50,7 @@ pub data Fold (P : Symbol → Range → Type 0) : Range → List Symbol → Rang
   onto : {s : Symbol} {ss : List Symbol} {a p b r : Range} → P s p → Join a p b → Fold P b ss r → Fold P a (s ∷ ss) r
 
 module _ {P : Symbol → Range → Type 0} (proper : (s : Symbol) (p : Range) → P s p → Proper p) where
-  run-proper : {ss : List Symbol} {r : Range} → Run P ss r → Proper r
+  pub run-proper : {ss : List Symbol} {r : Range} → Run P ss r → Proper r
   run-proper (done e) = inl e
   run-proper (more h d j) = join-proper (proper _ _ h) (run-proper d) (joined→join j)
 

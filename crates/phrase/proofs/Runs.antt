@@ -1,11 +1,11 @@
 -- What a row makes from a start are the ranges that document 01 gives it: a range of a row is what the row makes from that range's own
 -- start (`run→eval`, `eval→run`), two that start alike are one (`run-once`), and each starts where `starts` says (`run-starts`).
-use mathlib.Core.Path.{_≡_, refl, sym, ap, _∙_}
+use mathlib.Core.Path.{_≡_, refl, sym, ap, _∙_, subst}
 use mathlib.Core.Logic.{_⊎_, inl, inr}
 use mathlib.Core.Bool.{Bool, true, false, _&&_}
 use mathlib.Core.Option.{Option, none as apart, some as just, Option·none-ne-some}
 use mathlib.Core.List.{List, [], _∷_}
-use Prim.Native.Nat.{ℕ, zero, suc, _≤_, _<_}
+use Prim.Native.Nat.{ℕ, zero, suc, _+_, _≤_, _<_}
 use native.Mathlib.Omega.{arith}
 use lib.Dec.{T, eqb, ltb, eqb→eq, eqb-refl, ltb→lt, lt→ltb}
 use lib.ListN.{length, getD}
@@ -16,8 +16,8 @@ use Rattle.meaning.proofs.Tests.{both, two}
 use Rattle.meaning.proofs.Joining.{Join, left, right, next, range-path, none-join, join→joined, joined→join}
 use Rattle.meaning.proofs.Spans.{measure, one-word, word-at}
 use Rattle.meaning.proofs.Search.{isRange→, →isRange}
-use Rattle.phrase.specs.Row.{isRange, given, after, site, andThen, eval, Starts, opens, starts}
-use Rattle.phrase.proofs.Joins.{Proper, ends-none, join-proper, Fold, stop, onto, run→fold, fold→run}
+use Rattle.phrase.specs.Row.{isRange, given, after, site, andThen, eval, Starts, alone, opens, starts}
+use Rattle.phrase.proofs.Joins.{Proper, ends-none, join-proper, run-proper, Fold, stop, onto, run→fold, fold→run}
 
 and-then : {A B : Type 0} (o : Option A) (f : A → Option B) {b : B} → andThen o f ≡ just b → (a : A) × (o ≡ just a) × (f a ≡ just b)
 and-then apart f {b} e = absurd (Option·none-ne-some b e)
@@ -46,6 +46,12 @@ module _ {a p b : Range} where
   ends-past (inl i) (next g f) h = absurd (omega (arith, ap (λ (r : Range). r .from) i))
   ends-past (inr i) (next g f) h = rw f (omega arith)
 
+  -- of two that are not empty the second starts where the first ends
+  meets : 0 < a .to → 0 < p .to → Join a p b → a .to ≡ p .from
+  meets h k (left i f) = absurd (omega (arith, ap (λ (r : Range). r .to) i))
+  meets h k (right i f) = absurd (omega (arith, ap (λ (r : Range). r .to) i))
+  meets h k (next g f) = g
+
   past-ends : Join a p b → 0 < p .to → 0 < b .to
   past-ends (left i f) h = rw f h
   past-ends (right i f) h = absurd (omega (arith, ap (λ (r : Range). r .to) i))
@@ -59,6 +65,10 @@ module _ {a p b : Range} where
   goes start ha h (next g f) (inl k) = after-end start (a .to) k ∙ g
   goes start (inl i) h (next g f) (inr k) = after-none start (a .to) (ap (λ (r : Range). r .to) i) ∙ k
   goes start (inr i) h (next g f) (inr k) = after-end start (a .to) (omega arith) ∙ g
+
+-- a start is one of those that a row can have
+abbrev pub Within : Starts → ℕ → Type 0
+Within s x = (s .first ≤ x) × (x < s .end)
 
 module _ (ws : List ℕ) (e : ℕ → ℕ → Range) where
   -- where a symbol stands is a range
@@ -138,21 +148,32 @@ module _ (ws : List ℕ) (e : ℕ → ℕ → Range) where
   pub eval→run : (start : ℕ) (ss : List Symbol) {r : Range} → eval ws e start none ss ≡ just r → Run (Stands ws e) ss r
   eval→run start ss h = let (q, d, j) = fold→run stands-proper (inl refl) (eval→fold start none ss (inl refl) h) in rw (none-join refl j) d
 
-  -- a row starts where `starts` says
-  opens-start : (from to : ℕ) (s : Starts) (x : ℕ) → (to ≡ 0 → (s .first ≤ x) × (x < s .end)) → (0 < to → x ≡ from) → (opens from to s .first ≤ x) × (x < opens from to s .end)
-  opens-start from zero s x f g = f refl
-  opens-start from (suc to) s x f g = let h = g (omega arith) in (omega arith, omega arith)
+  -- a row starts where `starts` says: at x, n words ahead of what the rest of it makes; words alone anywhere, and nothing at 0
+  abbrev Ahead : ℕ → ℕ → Range → Type 0
+  Ahead n x r = (0 < r .to → x + n ≡ r .from) × (r .to ≡ 0 → Within (alone ws n) x)
 
-  pub run-starts : {ss : List Symbol} {r : Range} → Run (Stands ws e) ss r → (starts ws e ss .first ≤ r .from) × (r .from < starts ws e ss .end)
+  opens-start : (n from to : ℕ) (s : Starts) (x : ℕ) → (to ≡ 0 → Within s x) → (0 < to → x + n ≡ from) → Within (opens n from to s) x
+  opens-start n from zero s x f g = f refl
+  opens-start n from (suc to) s x f g = let h = g (omega arith) in (omega arith, omega arith)
+
+  ahead-starts : (n x : ℕ) {ss : List Symbol} {r : Range} → Ahead n x r → Run (Stands ws e) ss r → Within (starts ws e n ss) x
   unfolding starts Stands
-  run-starts (done q) = rw q (omega arith)
-  run-starts (more {s = word w} h d j) =
+  ahead-starts n x f (done q) = f .1 (ap (λ (r : Range). r .to) q)
+  ahead-starts n x f (more {s = word w} h d j) =
       let (i, t, g) = word-at h in
-      (omega arith, omega (arith, join-from (omega arith) (joined→join j)))
-  run-starts (more {s = part k c} {ss = ss} {p = p} {r = r} (q, i) d j) =
-      opens-start (e k c .from) (e k c .to) (starts ws e ss) (r .from)
-      (λ z. rw (none-join (ends-none (stands-proper (part k c) p (q, i)) (ap (λ (r : Range). r .to) q ∙ z)) (joined→join j)) (run-starts d))
-      (λ l. join-from (omega (arith, ap (λ (r : Range). r .to) q)) (joined→join j) ∙ ap (λ (r : Range). r .from) q)
+      let k = joined→join j in
+      let at = f .0 (ends-past (run-proper stands-proper d) k (omega arith)) ∙ join-from (omega arith) k in
+      ahead-starts (suc n) x (λ l. omega (arith, meets (omega arith) l k), λ z. (omega arith, omega arith)) d
+  ahead-starts n x f (more {s = part k c} {ss = ss} {p = p} {r = r} (q, i) d j) =
+      let m = joined→join j in
+      let to = ap (λ (r : Range). r .to) q in
+      opens-start n (e k c .from) (e k c .to) (starts ws e n ss) x
+      (λ z. ahead-starts n x (subst (Ahead n x) (none-join (ends-none (stands-proper (part k c) p (q, i)) (to ∙ z)) m) f) d)
+      (λ l. f .0 (ends-past (run-proper stands-proper d) m (omega arith)) ∙ join-from (omega arith) m ∙ ap (λ (r : Range). r .from) q)
+
+  pub run-starts : {ss : List Symbol} {r : Range} → Run (Stands ws e) ss r → Within (starts ws e 0 ss) (r .from)
+  run-starts {r = r} d =
+      ahead-starts 0 (r .from) (λ l. omega arith, λ z. (omega arith, omega (arith, ap (λ (r : Range). r .from) (ends-none (run-proper stands-proper d) z)))) d
 
   -- two ranges of a row that start alike are one
   pub run-once : {ss : List Symbol} {p q : Range} → Run (Stands ws e) ss p → Run (Stands ws e) ss q → p .from ≡ q .from → p ≡ q

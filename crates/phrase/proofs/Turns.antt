@@ -11,7 +11,7 @@ use Rattle.meaning.specs.Range.{Range, joined}
 use Rattle.meaning.specs.Grammar.{Symbol}
 use Rattle.meaning.specs.Table.{byte, number}
 use Rattle.meaning.specs.Decode.{several, symbolAt, rowAt}
-use Rattle.phrase.specs.Row.{after, wordHere, partHere, site, andThen, eval, Starts, opens, starts}
+use Rattle.phrase.specs.Row.{after, wordHere, partHere, site, andThen, eval, Starts, alone, ahead, opens, starts}
 
 -- a symbol of the table: a word, or the part that it names
 abbrev pub named : List ℕ → (ℕ → ℕ → Range) → ℕ → Range
@@ -38,6 +38,18 @@ left-of t left place = several left (symbolAt t) (λ p. p + 3) place
 pub whole-row : (t : List ℕ) (place left : ℕ) → left ≡ byte t place → left-of t left (place + 1) ≡ rowAt t place
 unfolding rowAt
 whole-row t place left e = rw e
+
+-- what `alone` and `opens` say
+pub alone-none : (ws : List ℕ) (n : ℕ) → n ≡ 0 → record { first = 0; end = 1 } ≡ alone ws n
+alone-none ws n h = rw h
+
+pub alone-some : (ws : List ℕ) (n : ℕ) → (n ≡ 0 → ⊥) → record { first = 0; end = length ws } ≡ alone ws n
+alone-some ws zero h = absurd (h refl)
+alone-some ws (suc n) h = refl
+
+opens-some : (n from to : ℕ) (s : Starts) → (to ≡ 0 → ⊥) → opens n from to s ≡ ahead from n
+opens-some n from zero s h = absurd (h refl)
+opens-some n from (suc to) s h = refl
 
 module _ (t ws : List ℕ) (e : ℕ → ℕ → Range) (left place : ℕ) where
   symbols-on : 0 < left → left-of t left place ≡ symbolAt t place ∷ left-of t (left - 1) (place + 3)
@@ -74,30 +86,24 @@ module _ (t ws : List ℕ) (e : ℕ → ℕ → Range) (left place : ℕ) where
       pub eval-on : (p b : Range) → site ws e start (a .to) (symbolAt t place) ≡ just p → joined a p ≡ just b → on b ≡ eval ws e start a (left-of t left place)
       eval-on p b f g = sym (eval-next p f ∙ ap (λ o. andThen o on) g)
 
-  -- where they can start
-  pub starts-end : left ≡ 0 → record { first = 0; end = 1 } ≡ starts ws e (left-of t left place)
-  unfolding starts
-  starts-end h = rw (symbols-end h)
+  -- where they can start, n words on
+  module _ (n : ℕ) where
+    pub starts-end : left ≡ 0 → alone ws n ≡ starts ws e n (left-of t left place)
+    unfolding starts
+    starts-end h = rw (symbols-end h)
 
-  module _ (h : 0 < left) where
-    pub starts-word : byte t place ≡ 0 → record { first = 0; end = length ws } ≡ starts ws e (left-of t left place)
-    unfolding starts symbolAt
-    starts-word k = rw (symbols-on h, eq-eqb (byte t place) 0 k)
+    module _ (h : 0 < left) where
+      pub starts-word : byte t place ≡ 0 → starts ws e (n + 1) (left-of t (left - 1) (place + 3)) ≡ starts ws e n (left-of t left place)
+      unfolding starts symbolAt
+      starts-word k = rw (symbols-on h, eq-eqb (byte t place) 0 k, add-one)
 
-    starts-turn : (byte t place ≡ 0 → ⊥) → starts ws e (left-of t left place) ≡ opens (named t e place .from) (named t e place .to) (starts ws e (left-of t (left - 1) (place + 3)))
-    unfolding starts symbolAt
-    starts-turn k = rw (symbols-on h, ne-eqb (byte t place) 0 k)
+      module _ (p : Range) (k : byte t place ≡ 0 → ⊥) (q : p ≡ named t e place) where
+        starts-turn : starts ws e n (left-of t left place) ≡ opens n (p .from) (p .to) (starts ws e n (left-of t (left - 1) (place + 3)))
+        unfolding starts symbolAt
+        starts-turn = rw (symbols-on h, ne-eqb (byte t place) 0 k, q)
 
-    opens-zero : (m n : ℕ) (s : Starts) → n ≡ 0 → opens m n s ≡ s
-    opens-zero m n s e = rw e
+        pub starts-on : p .to ≡ 0 → starts ws e n (left-of t (left - 1) (place + 3)) ≡ starts ws e n (left-of t left place)
+        starts-on z = sym (starts-turn ∙ rw z)
 
-    opens-some : (m n : ℕ) (s : Starts) → (n ≡ 0 → ⊥) → opens m n s ≡ record { first = m; end = suc m }
-    opens-some m zero s n = absurd (n refl)
-    opens-some m (suc n) s e = refl
-
-    module _ (p : Range) (k : byte t place ≡ 0 → ⊥) (q : p ≡ named t e place) where
-      pub starts-on : p .to ≡ 0 → starts ws e (left-of t (left - 1) (place + 3)) ≡ starts ws e (left-of t left place)
-      starts-on z = sym (starts-turn k ∙ opens-zero _ _ _ (sym (ap (λ (r : Range). r .to) q) ∙ z))
-
-      pub starts-part : (p .to ≡ 0 → ⊥) → record { first = p .from; end = p .from + 1 } ≡ starts ws e (left-of t left place)
-      starts-part z = sym (starts-turn k ∙ opens-some _ _ _ (λ n. z (ap (λ (r : Range). r .to) q ∙ n)) ∙ rw (← q, add-one))
+        pub starts-part : (p .to ≡ 0 → ⊥) → ahead (p .from) n ≡ starts ws e n (left-of t left place)
+        starts-part z = sym (starts-turn ∙ opens-some n (p .from) (p .to) _ z)

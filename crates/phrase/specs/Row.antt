@@ -1,9 +1,9 @@
 -- A row run from its left end, its first word tried at a given place, and where it can start: what the code computes.
--- That this finds the ranges that document 01 gives a row, and no others, is proved in proofs/Rows.antt.
+-- That this finds the ranges that document 01 gives a row, and no others, is proved in proofs/Runs.antt.
 use mathlib.Core.Bool.{Bool, true, false, _&&_, _||_}
 use mathlib.Core.Option.{Option, none as apart, some as just}
 use mathlib.Core.List.{List, [], _∷_}
-use Prim.Native.Nat.{ℕ, zero, suc}
+use Prim.Native.Nat.{ℕ, zero, suc, _-_}
 use lib.Dec.{eqb, ltb, leb}
 use lib.ListN.{length, getD}
 use Rattle.meaning.specs.Range.{Range, isNone, joined}
@@ -51,13 +51,22 @@ pub record Starts : Type 0 where
   pub first : ℕ
   pub end : ℕ
 
--- a part that is not empty fixes the start; otherwise the rest of the row does
-abbrev pub opens : ℕ → ℕ → Starts → Starts
-opens from zero s = s
-opens from (suc to) s = record { first = from; end = suc from }
+-- words and no part may stand anywhere; nothing stands at 0
+abbrev pub alone : List ℕ → ℕ → Starts
+alone ws zero = record { first = 0; end = 1 }
+alone ws (suc n) = record { first = 0; end = length ws }
 
--- the first part that is not empty fixes the start; a word may stand anywhere; nothing stands at 0
-unfoldable pub starts : List ℕ → (ℕ → ℕ → Range) → List Symbol → Starts
-starts ws e [] = record { first = 0; end = 1 }
-starts ws e (word w ∷ ss) = record { first = 0; end = length ws }
-starts ws e (part k c ∷ ss) = opens (e k c .from) (e k c .to) (starts ws e ss)
+-- n words before a place fix the start; where they would stand before the sentence there is none
+abbrev pub ahead : ℕ → ℕ → Starts
+ahead from n = record { first = from - n; end = suc from - n }
+
+-- a part that is not empty fixes the start, n words ahead of it; otherwise the rest of the row does
+abbrev pub opens : ℕ → ℕ → ℕ → Starts → Starts
+opens n from zero s = s
+opens n from (suc to) s = ahead from n
+
+-- n words on, where a row can start: its first part that is not empty, and the words before it, say so
+unfoldable pub starts : List ℕ → (ℕ → ℕ → Range) → ℕ → List Symbol → Starts
+starts ws e n [] = alone ws n
+starts ws e n (word w ∷ ss) = starts ws e (suc n) ss
+starts ws e n (part k c ∷ ss) = opens n (e k c .from) (e k c .to) (starts ws e n ss)

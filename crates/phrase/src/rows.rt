@@ -141,33 +141,56 @@ fn row_from(table: &[u8], place: usize, words: &[u16], d: Daughters, start: usiz
     Join::Joined(a)
 }
 
-// Where the row can start: where its first part that is not empty stands; anywhere if a word comes first; at 0 if it is empty.
+// Where a row of so many words and no part can start: words anywhere, nothing at 0.
+fn alone(words: &[u16], count: usize) -> Starts
+    ensures { λ r. ⌜ startsOf r ≡ row.alone (now (words .entry)) count ⌝ }
+{
+    if count == 0 {
+        return Starts { first: 0, end: 1 };
+    }
+    Starts {
+        first: 0,
+        end: words.len(),
+    }
+}
+
+// Where a row can start that has so many words before a place; nowhere if they would stand before the sentence.
+fn ahead(from: usize, count: usize) -> Starts
+    requires { ⌜ from < 65536 ⌝ }
+    ensures { λ r. ⌜ startsOf r ≡ row.ahead from count ⌝ }
+{
+    if from < count {
+        return Starts { first: 0, end: 0 };
+    }
+    let first = from - count;
+    let end = first + 1;
+    Starts {
+        first: first,
+        end: end,
+    }
+}
+
+// Where the row can start: its first part that is not empty, and the words before it, say so.
 fn row_starts(table: &[u8], place: usize, words: &[u16], d: Daughters) -> Starts
     requires { ⌜ rowEnd (now table) place ≤ length (now table) ⌝ }
-    ensures { λ r. ⌜ startsOf r ≡ row.starts (now (words .entry)) (heldOf d) (rowAt (now (table .entry)) place) ⌝ }
+    ensures { λ r. ⌜ startsOf r ≡ row.starts (now (words .entry)) (heldOf d) 0 (rowAt (now (table .entry)) place) ⌝ }
 {
     let mut left = byte_at(table, place);
     let mut at = place + 1;
+    let mut count = 0;
     while left > 0 {
         if byte_at(table, at) == 0 {
-            return Starts {
-                first: 0,
-                end: words.len(),
-            };
-        }
-        let p = part_at(table, at, d);
-        if p.to != 0 {
-            let first = p.from;
-            let end = first + 1;
-            return Starts {
-                first: first,
-                end: end,
-            };
+            count += 1;
+        } else {
+            let p = part_at(table, at, d);
+            if p.to != 0 {
+                return ahead(p.from, count);
+            }
         }
         at += 3;
         left -= 1;
     }
-    Starts { first: 0, end: 1 }
+    alone(words, count)
 }
 
 // Whether the row can have this range with these daughters.

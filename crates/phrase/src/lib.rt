@@ -13,6 +13,7 @@ pub use items::item_of;
 pub use items::range_at;
 pub use ranges::Join;
 pub use ranges::Range;
+pub use ranges::is_range;
 pub use rows::Row;
 pub use rows::row_next;
 pub use rows::row_of;

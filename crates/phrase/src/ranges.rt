@@ -49,7 +49,7 @@ pub(crate) fn joined(p: Range, q: Range) -> Join
 }
 
 // Whether it is a range of the sentence.
-pub(crate) fn is_range(words: &[u16], p: Range) -> bool
+pub fn is_range(words: &[u16], p: Range) -> bool
     ensures { λ r. ⌜ r ≡ row.isRange (now (words .entry)) (rangeOf p) ⌝ }
 {
     if is_none(p) {

@@ -4,9 +4,11 @@ use std::fmt;
 
 use crate::answer::{never, Answer};
 use crate::calls;
+use crate::limits::MOST_RECORDS;
 use crate::refusal::Refusal;
+use crate::saying::{counted, thousands};
 
-/// What the reader answers.
+/// What the reader answers. All but `Yes` and `No` say that nothing is known.
 #[derive(Clone, Copy, PartialEq, Eq, Debug)]
 pub enum Reading {
     /// 0: some tree of the start category spells the sentence. The chart holds
@@ -61,20 +63,40 @@ impl fmt::Display for Reading {
     fn fmt(&self, f: &mut fmt::Formatter) -> fmt::Result {
         match self {
             Reading::Yes { goal, items } => {
-                write!(f, "Yes: the table makes this sentence; it is record {goal} of {items}")
+                let phrases = counted(*items, "phrase");
+                write!(f, "Yes: the table makes this sentence. It finds {phrases}, the whole sentence at place {goal} (code 0).")
             }
             Reading::No { items } => {
-                write!(f, "No: the table does not make this sentence, only {items} phrases in it")
+                let phrases = counted(*items, "phrase");
+                write!(
+                    f,
+                    "No: the table does not make this sentence. It finds {phrases} in it (code 1)."
+                )
             }
             Reading::Full { room } => {
-                write!(f, "Neither yes nor no: there are more phrases than the room for {room}")
+                write!(f, "Neither yes nor no: there are more phrases than fit. {} (place {room}, code 16).", what_helps(*room))
             }
-            Reading::Deep => write!(f, "A phrase of this sentence has more than 2,000 levels"),
-            Reading::Refused(refusal) => return refusal.fmt(f),
-        }?;
-        write!(f, " (code {}).", self.answer().code)
+            Reading::Deep => write!(
+                f,
+                "Neither yes nor no: a phrase has more than 2,000 levels (place 0, code 22)."
+            ),
+            Reading::Refused(refusal) => refusal.fmt(f),
+        }
     }
 }
+
+/// What helps where the chart was full: more room, if there can be more.
+fn what_helps(room: usize) -> String {
+    let most = thousands(MOST_RECORDS);
+    if room < MOST_RECORDS {
+        let room = thousands(room);
+        format!("There was room for {room}; a larger allowance or chart, up to {most} records, may help")
+    } else {
+        format!("There was room for {most}, the most there can be: only a shorter sentence helps, or another table")
+    }
+}
+
+impl std::error::Error for Reading {}
 
 #[cfg(test)]
 mod tests {
@@ -92,7 +114,7 @@ mod tests {
         for (answer, reading) in answers {
             assert_eq!(Reading::named(answer), Some(reading));
             assert_eq!(reading.answer(), answer);
-            assert!(reading.to_string().contains(&format!("(code {})", answer.code)));
+            assert!(reading.to_string().contains(&format!("code {})", answer.code)));
         }
     }
 
@@ -101,5 +123,22 @@ mod tests {
         for answer in [Answer::new(1, 3, 5), Answer::new(16, 5, 1), Answer::new(17, 0, 0)] {
             assert_eq!(Reading::named(answer), None);
         }
+    }
+
+    #[test]
+    fn full_says_what_helps_and_when_nothing_does() {
+        let full = Reading::Full { room: 5 }.to_string();
+        assert!(full.starts_with("Neither yes nor no"));
+        assert!(full.contains("up to 2,000 records, may help (place 5, code 16)."));
+        let full = Reading::Full { room: 2000 }.to_string();
+        assert!(!full.contains("allowance") && full.contains("only a shorter sentence helps"));
+    }
+
+    #[test]
+    fn phrases_are_counted_as_people_count() {
+        let said = |items| Reading::No { items }.to_string();
+        assert!(said(0).contains("It finds no phrase in it"));
+        assert!(said(1).contains("It finds 1 phrase in it"));
+        assert!(said(5).contains("It finds 5 phrases in it"));
     }
 }

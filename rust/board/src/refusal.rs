@@ -132,9 +132,11 @@ impl Refusal {
 impl fmt::Display for Refusal {
     fn fmt(&self, f: &mut fmt::Formatter) -> fmt::Result {
         let sentence = self.sentence().replace('@', &self.place().to_string());
-        write!(f, "{sentence} (code {}).", self.code())
+        write!(f, "{sentence} (place {}, code {}).", self.place(), self.code())
     }
 }
+
+impl std::error::Error for Refusal {}
 
 #[cfg(test)]
 mod tests {
@@ -152,7 +154,7 @@ mod tests {
             let answer = Answer::refused(code, place);
             let refusal = Refusal::named(answer).expect("a refusal");
             assert_eq!((refusal.code(), refusal.place()), (code, place));
-            assert!(refusal.to_string().contains(&format!("(code {code})")));
+            assert!(refusal.to_string().contains(&format!("(place {place}, code {code})")));
             assert!(!refusal.to_string().contains('@'));
         }
     }
@@ -162,7 +164,7 @@ mod tests {
         let cut = Refusal::Short { table_length: 66 };
         assert_eq!(
             cut.to_string(),
-            "The table stops in the middle: it has only 66 bytes (code 2)."
+            "The table stops in the middle: it has only 66 bytes (place 66, code 2)."
         );
     }
 

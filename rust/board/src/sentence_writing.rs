@@ -5,13 +5,15 @@ use std::fmt;
 use crate::answer::{never, Answer};
 use crate::calls;
 use crate::refusal::Refusal;
+use crate::saying::counted;
 
 /// What the sentence writer answers. A refusal writes nothing.
 #[derive(Clone, Copy, PartialEq, Eq, Debug)]
 pub enum SentenceWriting {
     /// 0: the words are written.
     Written { words: usize },
-    /// 20: this node is where the list stops being a tree.
+    /// 20: the list is no tree of the start category. This node is where it
+    /// stops being one; the list's length, where it ends too early.
     TreeList { node: usize },
     /// 21: the slice is too short; this many words are needed.
     TextRoom { needed: usize },
@@ -42,6 +44,14 @@ impl SentenceWriting {
         Some(writing).filter(|writing| writing.answer() == answer)
     }
 
+    /// The number of words that were written, or the refusal as an error.
+    pub fn words(self) -> Result<usize, SentenceWriting> {
+        match self {
+            SentenceWriting::Written { words } => Ok(words),
+            refused => Err(refused),
+        }
+    }
+
     /// Document 01's code, place and count.
     pub fn answer(&self) -> Answer {
         match *self {
@@ -57,19 +67,20 @@ impl fmt::Display for SentenceWriting {
     fn fmt(&self, f: &mut fmt::Formatter) -> fmt::Result {
         match self {
             SentenceWriting::Written { words } => {
-                write!(f, "The sentence is written: {words} words")
+                write!(f, "The sentence is written: {} (code 0).", counted(*words, "word"))
             }
             SentenceWriting::TreeList { node } => {
-                write!(f, "This list is no tree of the table: it goes wrong at node {node}")
+                write!(f, "This list is no tree of the start category: it goes wrong at node {node} (place {node}, code 20).")
             }
             SentenceWriting::TextRoom { needed } => {
-                write!(f, "There is too little room for the sentence; it needs {needed} words")
+                write!(f, "There is too little room for the sentence; it needs {needed} words (place {needed}, code 21).")
             }
-            SentenceWriting::Refused(refusal) => return refusal.fmt(f),
-        }?;
-        write!(f, " (code {}).", self.answer().code)
+            SentenceWriting::Refused(refusal) => refusal.fmt(f),
+        }
     }
 }
+
+impl std::error::Error for SentenceWriting {}
 
 #[cfg(test)]
 mod tests {
@@ -86,7 +97,7 @@ mod tests {
         for (answer, writing) in answers {
             assert_eq!(SentenceWriting::named(answer), Some(writing));
             assert_eq!(writing.answer(), answer);
-            assert!(writing.to_string().contains(&format!("(code {})", answer.code)));
+            assert!(writing.to_string().contains(&format!("code {})", answer.code)));
         }
     }
 

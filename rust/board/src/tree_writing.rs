@@ -5,13 +5,15 @@ use std::fmt;
 use crate::answer::{never, Answer};
 use crate::calls;
 use crate::refusal::Refusal;
+use crate::saying::counted;
 
 /// What the tree writer answers. A refusal writes nothing.
 #[derive(Clone, Copy, PartialEq, Eq, Debug)]
 pub enum TreeWriting {
     /// 0: the tree's function numbers are written.
     Written { nodes: usize },
-    /// 17: this record of the chart is wrong (or the count is, then 0).
+    /// 17: this record of the chart is the first that is wrong; or the count is
+    /// more than 2,000 or than the chart holds, and then 0 says nothing.
     Chart { record: usize },
     /// 18: the root is not below the count.
     Place { root: usize },
@@ -51,6 +53,14 @@ impl TreeWriting {
         Some(writing).filter(|writing| writing.answer() == answer)
     }
 
+    /// The number of nodes that were written, or the refusal as an error.
+    pub fn nodes(self) -> Result<usize, TreeWriting> {
+        match self {
+            TreeWriting::Written { nodes } => Ok(nodes),
+            refused => Err(refused),
+        }
+    }
+
     /// Document 01's code, place and count.
     pub fn answer(&self) -> Answer {
         match *self {
@@ -66,19 +76,27 @@ impl TreeWriting {
 impl fmt::Display for TreeWriting {
     fn fmt(&self, f: &mut fmt::Formatter) -> fmt::Result {
         match self {
-            TreeWriting::Written { nodes } => write!(f, "The tree is written: {nodes} nodes"),
+            TreeWriting::Written { nodes } => {
+                write!(f, "The tree is written: {} (code 0).", counted(*nodes, "node"))
+            }
             TreeWriting::Chart { record } => {
-                write!(f, "This chart can't be trusted: its count or its record {record} is wrong")
+                write!(f, "This chart can't be trusted: its count or its record at place {record} is wrong (place {record}, code 17).")
             }
-            TreeWriting::Place { root } => write!(f, "The chart has no record {root}"),
+            TreeWriting::Place { root } => {
+                write!(f, "The chart has no record at place {root} (place {root}, code 18).")
+            }
             TreeWriting::TreeRoom { room } => {
-                write!(f, "The tree has more nodes than the room for {room}")
+                write!(
+                    f,
+                    "The tree has more nodes than the room for {room} (place {room}, code 19)."
+                )
             }
-            TreeWriting::Refused(refusal) => return refusal.fmt(f),
-        }?;
-        write!(f, " (code {}).", self.answer().code)
+            TreeWriting::Refused(refusal) => refusal.fmt(f),
+        }
     }
 }
+
+impl std::error::Error for TreeWriting {}
 
 #[cfg(test)]
 mod tests {
@@ -96,7 +114,7 @@ mod tests {
         for (answer, writing) in answers {
             assert_eq!(TreeWriting::named(answer), Some(writing));
             assert_eq!(writing.answer(), answer);
-            assert!(writing.to_string().contains(&format!("(code {})", answer.code)));
+            assert!(writing.to_string().contains(&format!("code {})", answer.code)));
         }
     }
 

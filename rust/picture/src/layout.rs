@@ -1,32 +1,34 @@
-//! Where everything stands. The root is at the top and each daughter one step
-//! below its mother; the words stand in a row at the bottom. From a node to a
-//! word the branch turns within one step, then falls straight down the word's
-//! column. No node is put on a column that falls past it.
+//! Where everything stands. The root is at the top and each daughter one row
+//! below its mother; the words stand in a row at the bottom. Slots say where a
+//! thing stands across (`placing`), lanes at which height a branch turns aside
+//! (`lanes`); here both become points.
 
-use crate::tree::{Node, Tree};
+use crate::lanes::{lanes, Lanes};
+use crate::placing::{Lead, Placing, Target};
+use crate::tree::Tree;
 
-/// From one word to the next, from one depth to the next, and down to the words.
-pub const COLUMN: f64 = 84.0;
-pub const STEP: f64 = 96.0;
-const LAST_STEP: f64 = 136.0;
+/// From one slot to the next, and from one lane to the next.
+pub const SLOT: f64 = 12.0;
+pub const LANE: f64 = 10.0;
 
-/// Half of a node's box, and half of a word's.
-pub const NODE: Size = Size { across: 25.0, up: 20.0 };
-pub const WORD: Size = Size { across: 27.0, up: 17.0 };
+/// From a row's boxes down to the first lane, and from the last lane down to the
+/// next boxes.
+const LEAD: f64 = 16.0;
+const TAIL: f64 = 18.0;
 
-/// Free space between a box and a column, and between two boxes.
-const GAP: f64 = 7.0;
-const BOX_GAP: f64 = 20.0;
+/// What the mark of an empty leaf needs below its box.
+pub const MARK: f64 = 32.0;
 
-/// Free space around the picture.
-const MARGIN: f64 = 40.0;
+/// Half the height of a node's box, and of a word's.
+const NODE_UP: f64 = 20.0;
+const WORD_UP: f64 = 17.0;
 
-/// Half the width and half the height of a box.
-#[derive(Clone, Copy)]
-pub struct Size {
-    pub across: f64,
-    pub up: f64,
-}
+/// Free space around the picture, and between two words' boxes.
+const MARGIN: f64 = 30.0;
+
+/// A word's box is at least so wide, and so wide for each letter.
+const LEAST_WORD: f64 = 54.0;
+const LETTER: f64 = 9.4;
 
 /// A point of the picture.
 #[derive(Clone, Copy, PartialEq, Debug)]
@@ -35,110 +37,130 @@ pub struct Point {
     pub y: f64,
 }
 
-/// The picture: the middles of all boxes, and its size.
+/// A box: its middle, and half its width and height.
+#[derive(Clone, Copy, PartialEq, Debug)]
+pub struct Box {
+    pub middle: Point,
+    pub across: f64,
+    pub up: f64,
+}
+
+/// A branch of a node: down, aside, and down again to what it reaches.
+#[derive(Clone, PartialEq, Debug)]
+pub struct Branch {
+    pub node: usize,
+    pub points: Vec<Point>,
+}
+
+/// The picture: all boxes, all branches, and its size.
 pub struct Layout<'a> {
     pub tree: &'a Tree,
-    pub nodes: Vec<Point>,
-    pub words: Vec<Point>,
+    pub nodes: Vec<Box>,
+    pub words: Vec<Box>,
+    pub branches: Vec<Branch>,
     pub width: f64,
     pub height: f64,
 }
 
-/// Lays a tree out.
-pub fn layout(tree: &Tree) -> Layout<'_> {
-    let columns: Vec<f64> = (0..tree.words.len()).map(|index| index as f64 * COLUMN).collect();
-    let mut placing = Placing { tree, columns, across: vec![0.0; tree.nodes.len()] };
-    for depth in 0..=deepest(tree) {
-        placing.row(depth);
+/// Lays a tree out; `words` are the sentence's words as they are written.
+pub fn layout<'a>(tree: &'a Tree, words: &[String]) -> Layout<'a> {
+    let letters = words.iter().map(|word| word.chars().count()).max().unwrap_or(0);
+    let word_width = LEAST_WORD.max(letters as f64 * LETTER + LEAD);
+    let column = ((word_width + MARGIN) / SLOT).ceil() as i64;
+    let placing = Placing::of(tree, column);
+    let lanes = lanes(&placing);
+    let rows = rows(tree, &lanes.in_band);
+    Measured { placing, lanes, rows, word_across: word_width / 2.0 }.picture()
+}
+
+impl Box {
+    pub fn bottom(&self) -> f64 {
+        self.middle.y + self.up
     }
-    placing.finish()
 }
 
-fn deepest(tree: &Tree) -> usize {
-    tree.nodes.iter().map(|node| node.depth).max().unwrap_or(0)
+/// The heights of the rows.
+struct Rows {
+    middles: Vec<f64>,
+    /// From a row's boxes down to its first lane.
+    leads: Vec<f64>,
+    words: f64,
+    height: f64,
 }
 
-struct Placing<'a> {
-    tree: &'a Tree,
-    columns: Vec<f64>,
-    across: Vec<f64>,
+/// A row stands as far below the one above as the lanes between them need.
+fn rows(tree: &Tree, lanes_in_band: &[usize]) -> Rows {
+    let mut rows = Rows { middles: Vec::new(), leads: Vec::new(), words: 0.0, height: 0.0 };
+    let mut top = MARGIN;
+    for (depth, &lanes) in lanes_in_band.iter().enumerate() {
+        let has_mark = tree.at_depth(depth).any(|number| tree.nodes[number].is_empty());
+        let lead = LEAD + if has_mark { MARK } else { 0.0 };
+        rows.middles.push(top + NODE_UP);
+        rows.leads.push(lead);
+        top += 2.0 * NODE_UP + lead + lanes as f64 * LANE + TAIL;
+    }
+    rows.words = top + WORD_UP;
+    let words_and_indices = 2.0 * WORD_UP + LEAD;
+    rows.height = top + MARGIN + if tree.words.is_empty() { -TAIL } else { words_and_indices };
+    rows
 }
 
-impl<'a> Placing<'a> {
-    /// Places the nodes of one depth, from the left.
-    fn row(&mut self, depth: usize) {
-        let nodes = &self.tree.nodes;
-        let mut row: Vec<(f64, usize)> = (0..nodes.len())
-            .filter(|&number| nodes[number].depth == depth)
-            .map(|number| (self.wished(number), number))
-            .collect();
-        row.sort_by(|one, other| one.partial_cmp(other).expect("places are numbers"));
-        let mut taken = self.passing(depth);
-        for (wished, number) in row {
-            let across = nearest_free(wished, &taken);
-            self.across[number] = across;
-            taken.push(Taken { across, free: 2.0 * NODE.across + BOX_GAP });
+/// All that is known in slots, lanes and heights.
+struct Measured<'a> {
+    placing: Placing<'a>,
+    lanes: Lanes,
+    rows: Rows,
+    word_across: f64,
+}
+
+impl<'a> Measured<'a> {
+    fn picture(self) -> Layout<'a> {
+        let tree = self.placing.tree;
+        let nodes: Vec<Box> = (0..tree.nodes.len()).map(|number| self.node(number)).collect();
+        let words: Vec<Box> = (0..tree.words.len()).map(|word| self.word(word)).collect();
+        let leads = self.placing.leads.iter().zip(&self.lanes.of_leads);
+        let branches = leads.map(|(lead, &lane)| {
+            let end = match lead.target {
+                Target::Node(number) => nodes[number],
+                Target::Word(word) => words[word],
+            };
+            self.branch(lead, lane, nodes[lead.node].bottom(), end)
+        });
+        let branches = branches.collect();
+        let width = self.x(self.placing.edges().1) + self.side();
+        Layout { tree, nodes, words, branches, width, height: self.rows.height }
+    }
+
+    fn side(&self) -> f64 {
+        MARGIN + self.word_across
+    }
+
+    fn x(&self, slot: i64) -> f64 {
+        (slot - self.placing.edges().0) as f64 * SLOT + self.side()
+    }
+
+    fn node(&self, number: usize) -> Box {
+        let y = self.rows.middles[self.placing.tree.nodes[number].depth];
+        Box {
+            middle: Point { x: self.x(self.placing.middles[number]), y },
+            across: self.placing.halves[number] as f64 * SLOT + SLOT / 2.0,
+            up: NODE_UP,
         }
     }
 
-    /// Over the middle of all its words; without words, beside its mother.
-    fn wished(&self, number: usize) -> f64 {
-        let words = all_words(&self.tree.nodes, number);
-        if !words.is_empty() {
-            let sum: f64 = words.iter().map(|&word| self.columns[word]).sum();
-            return sum / words.len() as f64;
-        }
-        match self.tree.nodes[number].parent {
-            Some(parent) => self.across[parent] + COLUMN / 4.0,
-            None => 0.0,
-        }
+    fn word(&self, word: usize) -> Box {
+        let middle = Point { x: self.x(self.placing.columns[word]), y: self.rows.words };
+        Box { middle, across: self.word_across, up: WORD_UP }
     }
 
-    /// The columns of words that belong to nodes above this depth.
-    fn passing(&self, depth: usize) -> Vec<Taken> {
-        let above = self.tree.nodes.iter().filter(|node| node.depth < depth);
-        let words = above.flat_map(|node| &node.words);
-        let free = NODE.across + GAP;
-        words.map(|&word| Taken { across: self.columns[word], free }).collect()
+    /// Down, aside in its lane, and down again; straight, if nothing is aside.
+    fn branch(&self, lead: &Lead, lane: usize, top: f64, end: Box) -> Branch {
+        let (from, to) = (self.x(lead.port), end.middle.x);
+        let row = self.placing.tree.nodes[lead.node].depth;
+        let turn = top + self.rows.leads[row] + lane as f64 * LANE;
+        let corners = [(from, top), (from, turn), (to, turn), (to, end.middle.y - end.up)];
+        let points = corners.map(|(x, y)| Point { x, y });
+        let points = if from == to { vec![points[0], points[3]] } else { points.to_vec() };
+        Branch { node: lead.node, points }
     }
-
-    /// Moves everything into the picture and measures it.
-    fn finish(self) -> Layout<'a> {
-        let all = || self.across.iter().chain(&self.columns).copied();
-        let left = all().fold(f64::INFINITY, f64::min);
-        let right = all().fold(f64::NEG_INFINITY, f64::max);
-        let x = |across: f64| across - left + MARGIN + WORD.across;
-        let y = |depth: usize| MARGIN + NODE.up + depth as f64 * STEP;
-        let bottom = y(deepest(self.tree)) + LAST_STEP;
-        let depths = self.tree.nodes.iter().map(|node| node.depth);
-        let nodes = self.across.iter().zip(depths);
-        Layout {
-            tree: self.tree,
-            nodes: nodes.map(|(&across, depth)| Point { x: x(across), y: y(depth) }).collect(),
-            words: self.columns.iter().map(|&column| Point { x: x(column), y: bottom }).collect(),
-            width: x(right) + MARGIN + WORD.across,
-            height: bottom + WORD.up + MARGIN,
-        }
-    }
-}
-
-/// The words of a node and of all nodes below it.
-fn all_words(nodes: &[Node], number: usize) -> Vec<usize> {
-    let below = nodes[number].daughters.iter().flat_map(|&daughter| all_words(nodes, daughter));
-    nodes[number].words.iter().copied().chain(below).collect()
-}
-
-/// Something that the middle of a node's box must keep clear of, by so much.
-struct Taken {
-    across: f64,
-    free: f64,
-}
-
-/// The free place nearest to the wished one; of two, the right one.
-fn nearest_free(wished: f64, taken: &[Taken]) -> f64 {
-    let is_free =
-        |across: &f64| taken.iter().all(|other| (other.across - across).abs() >= other.free);
-    let steps = (0..).map(|step| step as f64 * COLUMN / 12.0);
-    let mut places = steps.flat_map(|step| [wished + step, wished - step]);
-    places.find(is_free).expect("there is always room further out")
 }

@@ -1,29 +1,35 @@
 //! Writing a picture as SVG: branches first, then the boxes over them.
 
-use crate::layout::{Layout, Point, NODE, STEP, WORD};
+use crate::colours::{colours, COLOURS};
+use crate::layout::{Box, Branch, Layout, Point, MARK};
 use crate::tree::Node;
 
-/// One colour for the branches of a node, so that crossing ones can be told apart.
-const COLOURS: [&str; 6] = ["#1f6feb", "#c2410c", "#0f766e", "#9333ea", "#b45309", "#be185d"];
+/// A branch's line, and the white edge that shows where it passes over another.
+pub const LINE: f64 = 2.4;
+pub const EDGE: f64 = 6.0;
 
-/// The picture.
-pub fn svg(layout: &Layout) -> String {
+/// How round a branch turns.
+const ROUND: f64 = 4.0;
+
+/// The picture, with the words as they are written.
+pub fn svg(layout: &Layout, words: &[String]) -> String {
+    let colours: Vec<&str> = colours(layout).iter().map(|&colour| COLOURS[colour]).collect();
     let mut parts = vec![head(layout)];
-    for number in 0..layout.nodes.len() {
-        parts.push(branches(layout, number));
+    for branch in &layout.branches {
+        parts.push(branch_line(branch, colours[branch.node]));
     }
-    for (node, (point, number)) in layout.tree.nodes.iter().zip(layout.nodes.iter().zip(0..)) {
-        parts.push(node_box(node, *point, colour(number)));
+    for (number, node) in layout.tree.nodes.iter().enumerate() {
+        let place = layout.nodes[number];
+        if node.is_empty() {
+            parts.push(nothing(Point { x: place.middle.x, y: place.bottom() }, colours[number]));
+        }
+        parts.push(node_box(node, place, colours[number]));
     }
-    for ((word, point), index) in layout.tree.words.iter().zip(&layout.words).zip(0..) {
-        parts.push(word_box(*word, *point, index));
+    for ((word, place), index) in words.iter().zip(&layout.words).zip(0..) {
+        parts.push(word_box(word, *place, index));
     }
     parts.push("</svg>\n".to_string());
     parts.concat()
-}
-
-fn colour(number: usize) -> &'static str {
-    COLOURS[number % COLOURS.len()]
 }
 
 fn head(layout: &Layout) -> String {
@@ -36,57 +42,36 @@ fn head(layout: &Layout) -> String {
     )
 }
 
-/// The branches of one node: to its daughters, to its own words, or to nothing.
-/// First come their white edges, which show where they pass over others.
-fn branches(layout: &Layout, number: usize) -> String {
-    let node = &layout.tree.nodes[number];
-    let daughters = node.daughters.iter().map(|&daughter| to_daughter(layout, number, daughter));
-    let words = node.words.iter().map(|&word| to_word(layout, number, word));
-    let paths: Vec<String> = daughters.chain(words).collect();
-    let edges = paths.iter().map(|path| line(path, "#ffffff", 6.0));
-    let lines = paths.iter().map(|path| line(path, colour(number), 2.2));
-    let empty = is_empty(node).then(|| nothing(below(layout.nodes[number]), colour(number)));
-    edges.chain(lines).chain(empty).collect()
+/// A branch over its white edge.
+fn branch_line(branch: &Branch, colour: &str) -> String {
+    let path = rounded(&branch.points);
+    let line = |colour: &str, width: f64| {
+        format!("<path d=\"{path}\" fill=\"none\" stroke=\"{colour}\" stroke-width=\"{width}\"/>\n")
+    };
+    line("#ffffff", EDGE) + &line(colour, LINE)
 }
 
-fn to_daughter(layout: &Layout, number: usize, daughter: usize) -> String {
-    let to = layout.nodes[daughter];
-    bend(below(layout.nodes[number]), Point { x: to.x, y: to.y - NODE.up })
+/// A path through the points, with its corners rounded.
+fn rounded(points: &[Point]) -> String {
+    let mut path = format!("M {} {}", points[0].x, points[0].y);
+    for corner in points.windows(3) {
+        let (before, after) = (towards(corner[1], corner[0]), towards(corner[1], corner[2]));
+        let Point { x, y } = corner[1];
+        path += &format!(" L {} {} Q {x} {y} {} {}", before.x, before.y, after.x, after.y);
+    }
+    let last = points[points.len() - 1];
+    path + &format!(" L {} {}", last.x, last.y)
 }
 
-/// Turns within one step and then falls down the word's column. From the lowest
-/// nodes it turns all the way.
-fn to_word(layout: &Layout, number: usize, word: usize) -> String {
-    let (from, to) = (layout.nodes[number], layout.words[word]);
-    let top = to.y - WORD.up;
-    let next = from.y + STEP;
-    let is_lowest = layout.nodes.iter().all(|node| node.y < next);
-    let turned = if is_lowest { top } else { next - NODE.up };
-    format!("{} L {} {top}", bend(below(from), Point { x: to.x, y: turned }), to.x)
-}
-
-fn line(path: &str, colour: &str, width: f64) -> String {
-    format!("<path d=\"{path}\" fill=\"none\" stroke=\"{colour}\" stroke-width=\"{width}\"/>\n")
-}
-
-/// Whether this is a leaf without words.
-fn is_empty(node: &Node) -> bool {
-    node.words.is_empty() && node.daughters.is_empty()
-}
-
-fn below(point: Point) -> Point {
-    Point { x: point.x, y: point.y + NODE.up }
-}
-
-/// A path that leaves downward and arrives downward.
-fn bend(from: Point, to: Point) -> String {
-    let middle = (from.y + to.y) / 2.0;
-    format!("M {} {} C {} {middle} {} {middle} {} {}", from.x, from.y, from.x, to.x, to.x, to.y)
+/// The point at most as far from a corner as it is round, on the way to the next.
+fn towards(corner: Point, next: Point) -> Point {
+    let go = |from: f64, to: f64| from + (to - from).clamp(-ROUND, ROUND);
+    Point { x: go(corner.x, next.x), y: go(corner.y, next.y) }
 }
 
 /// The mark of an empty phrase: a small circle that is struck through.
 fn nothing(from: Point, colour: &str) -> String {
-    let (x, y) = (from.x, from.y + 22.0);
+    let (x, y) = (from.x, from.y + MARK - 10.0);
     format!(
         "<g class=\"empty\" stroke=\"{colour}\" stroke-width=\"1.8\" fill=\"none\">\
          <path d=\"M {x} {} L {x} {}\" stroke-dasharray=\"3 3\"/>\
@@ -102,17 +87,13 @@ fn nothing(from: Point, colour: &str) -> String {
 }
 
 /// A node: its category above, its function number below.
-fn node_box(node: &Node, point: Point, colour: &str) -> String {
-    let Point { x, y } = point;
+fn node_box(node: &Node, place: Box, colour: &str) -> String {
+    let Point { x, y } = place.middle;
     format!(
-        "<g class=\"node\"><rect x=\"{}\" y=\"{}\" width=\"{}\" height=\"{}\" rx=\"9\" \
-         fill=\"#ffffff\" stroke=\"{colour}\" stroke-width=\"2\"/>\
+        "<g class=\"node\"><rect {} rx=\"9\" fill=\"#ffffff\" stroke=\"{colour}\" stroke-width=\"2.2\"/>\
          <text x=\"{x}\" y=\"{}\" font-size=\"15\" font-weight=\"bold\" fill=\"#111827\">A{}</text>\
-         <text x=\"{x}\" y=\"{}\" font-size=\"11.5\" fill=\"{colour}\">{}</text></g>\n",
-        x - NODE.across,
-        y - NODE.up,
-        2.0 * NODE.across,
-        2.0 * NODE.up,
+         <text x=\"{x}\" y=\"{}\" font-size=\"11.5\" fill=\"#374151\">{}</text></g>\n",
+        corners(place),
         y - 1.5,
         node.category,
         y + 13.5,
@@ -120,19 +101,31 @@ fn node_box(node: &Node, point: Point, colour: &str) -> String {
     )
 }
 
-/// A word: its number, and below the box its index.
-fn word_box(word: u16, point: Point, index: usize) -> String {
-    let Point { x, y } = point;
+/// A word, and below its box its index.
+fn word_box(word: &str, place: Box, index: usize) -> String {
+    let Point { x, y } = place.middle;
     format!(
-        "<g class=\"word\"><rect x=\"{}\" y=\"{}\" width=\"{}\" height=\"{}\" rx=\"4\" \
-         fill=\"#f3f4f6\" stroke=\"#6b7280\" stroke-width=\"1.4\"/>\
-         <text x=\"{x}\" y=\"{}\" font-size=\"15\" fill=\"#111827\">{word}</text>\
+        "<g class=\"word\"><rect {} rx=\"4\" fill=\"#f3f4f6\" stroke=\"#6b7280\" stroke-width=\"1.4\"/>\
+         <text x=\"{x}\" y=\"{}\" font-size=\"15\" fill=\"#111827\">{}</text>\
          <text x=\"{x}\" y=\"{}\" font-size=\"10\" fill=\"#6b7280\">{index}</text></g>\n",
-        x - WORD.across,
-        y - WORD.up,
-        2.0 * WORD.across,
-        2.0 * WORD.up,
+        corners(place),
         y + 5.5,
-        y + WORD.up + 14.0,
+        escaped(word),
+        place.bottom() + 14.0,
     )
+}
+
+fn corners(place: Box) -> String {
+    format!(
+        "x=\"{}\" y=\"{}\" width=\"{}\" height=\"{}\"",
+        place.middle.x - place.across,
+        place.middle.y - place.up,
+        2.0 * place.across,
+        2.0 * place.up
+    )
+}
+
+/// A word may have any letters; these have a meaning in SVG.
+fn escaped(word: &str) -> String {
+    word.replace('&', "&amp;").replace('<', "&lt;").replace('>', "&gt;")
 }

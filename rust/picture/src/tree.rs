@@ -26,6 +26,37 @@ pub struct Node {
     pub daughters: Vec<usize>,
 }
 
+impl Tree {
+    /// The depth of the lowest nodes.
+    pub fn deepest(&self) -> usize {
+        self.nodes.iter().map(|node| node.depth).max().unwrap_or(0)
+    }
+
+    /// The numbers of the nodes at a depth.
+    pub fn at_depth(&self, depth: usize) -> impl Iterator<Item = usize> + '_ {
+        (0..self.nodes.len()).filter(move |&number| self.nodes[number].depth == depth)
+    }
+
+    /// The words of a node and of all nodes below it.
+    pub fn all_words(&self, number: usize) -> Vec<usize> {
+        let node = &self.nodes[number];
+        let below = node.daughters.iter().flat_map(|&daughter| self.all_words(daughter));
+        node.words.iter().copied().chain(below).collect()
+    }
+}
+
+impl Node {
+    /// How many branches leave this node.
+    pub fn branches(&self) -> usize {
+        self.words.len() + self.daughters.len()
+    }
+
+    /// Whether this is a leaf without words.
+    pub fn is_empty(&self) -> bool {
+        self.branches() == 0
+    }
+}
+
 /// The tree of the record at `root`, if the chart passes and it isn't too large.
 pub fn tree(table: &[u8], words: &[u8], chart: &[u16], count: usize, root: usize) -> Option<Tree> {
     let table = table_check::check(table).ok()?;

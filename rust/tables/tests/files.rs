@@ -1,6 +1,9 @@
 //! The files in `tables/` are what their clauses say, and no file is without.
 
+use std::collections::BTreeSet;
 use std::path::{Path, PathBuf};
+
+use tables::{Rule, Symbol};
 
 fn folder() -> PathBuf {
     Path::new(env!("CARGO_MANIFEST_DIR")).join("../../tables")
@@ -22,6 +25,31 @@ fn every_table_file_is_built_here() {
         let name = name.to_str().expect("names are plain");
         assert!(!name.ends_with(".mcg") || known.contains(&name), "{name}");
     }
+}
+
+/// The words that stand in a table's rules.
+fn words_of(text: &str) -> BTreeSet<u16> {
+    let rules: Vec<Rule> = tables::clause::describe(text).rules;
+    let symbols = rules.iter().flat_map(|rule| rule.rows.iter().flatten());
+    let words = symbols.filter_map(|symbol| match symbol {
+        Symbol::Word(word) => Some(*word),
+        Symbol::Part(..) => None,
+    });
+    words.collect()
+}
+
+#[test]
+fn a_words_file_names_exactly_the_words_of_its_table() {
+    let mut found = Vec::new();
+    for (name, text) in tables::worked::FILES {
+        let file = folder().join(name).with_extension("words");
+        let Ok(lines) = std::fs::read_to_string(&file) else { continue };
+        let numbers = lines.lines().map(|line| line.split(' ').next().unwrap_or("").parse());
+        let numbers: Result<BTreeSet<u16>, _> = numbers.collect();
+        assert_eq!(numbers, Ok(words_of(text)), "{}", file.display());
+        found.push(name);
+    }
+    assert_eq!(found, ["abc.mcg", "figure-3-1.mcg", "gxx.mcg", "verb.mcg"]);
 }
 
 #[test]

@@ -92,10 +92,12 @@ module _ (G : Grammar) (ws : List ℕ) (C : List (Entry Item)) where
     ways : T waysb → Each (λ e. Way (GivenBy G ws) L (e .known) (e .function) (e .places)) C
     ways t = each-map (λ e u. go₁ e (any-some _ (G .rules) u)) (all-each _ C t)
       where
-        go₂ : (e : Entry Item) (r : Rule) → Mem r (G .rules) → T (eqb (r .function) (e .function)) × T (any (wayb e r) (tuples L (r .daughters))) → Way (GivenBy G ws) L (e .known) (e .function) (e .places)
+        go₂ : (e : Entry Item) (r : Rule) → Mem r (G .rules) → T (eqb (r .function) (e .function)) × T (any (wayb e r) (tuples L (r .daughters)))
+            → Way (GivenBy G ws) L (e .known) (e .function) (e .places)
         go₂ e r m (f, a) = let (s, n, b) = any-some (wayb e r) (tuples L (r .daughters)) a in way {e = e} {r = r} {t = s} m f n b
 
-        go₁ : (e : Entry Item) → (r : Rule) × Mem r (G .rules) × T (eqb (r .function) (e .function) && any (wayb e r) (tuples L (r .daughters))) → Way (GivenBy G ws) L (e .known) (e .function) (e .places)
+        go₁ : (e : Entry Item) → (r : Rule) × Mem r (G .rules) × T (eqb (r .function) (e .function) && any (wayb e r) (tuples L (r .daughters)))
+            → Way (GivenBy G ws) L (e .known) (e .function) (e .places)
         go₁ e (r, m, q) = go₂ e r m (both (eqb (r .function) (e .function)) _ q)
 
   has : (r : Rule) {f : ℕ} → r .function ≡ f → (ps : List ℕ) (ds : List (Known Item)) (x : Item) (e : Entry Item) → T (hasb r (ps, ds) x e)
@@ -105,7 +107,8 @@ module _ (G : Grammar) (ws : List ℕ) (C : List (Entry Item)) where
       let (b, c) = both (leb (e .known .height) (suc (tallest ds))) _ z in (
         same→ (e .known .item) x a,
         leb→le _ _ b,
-        λ h l. T-not (lexb (r .function ∷ ps) (e .function ∷ e .places)) (modus (eqb (e .known .height) (suc (tallest ds))) _ c (rw h (eqb-refl (suc (tallest ds))))) (lex→lexb (r .function ∷ ps) (e .function ∷ e .places) (rw k l)),
+        λ h l. T-not (lexb (r .function ∷ ps) (e .function ∷ e .places)) (modus (eqb (e .known .height) (suc (tallest ds))) _ c (rw h (eqb-refl (suc (tallest ds)))))
+            (lex→lexb (r .function ∷ ps) (e .function ∷ e .places) (rw k l)),
       )
 
   closed : T closedb → (f : ℕ) (ps : List ℕ) (ds : List (Known Item)) (x : Item) → map (getElem? L) ps ≡ map some ds → GivenBy G ws f (things ds) x

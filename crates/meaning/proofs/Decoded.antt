@@ -43,7 +43,8 @@ module _ {A : Type 0} (f : ℕ → A) (next : ℕ → ℕ) where
   several-mem zero at m = absurd (not-mem-nil m)
   several-mem {x} (suc n) at m = go (several-mem n (next at)) (mem-cons m)
     where
-      go : (Mem x (several n f next (next at)) → (i : ℕ) × (i < n) × (x ≡ f (past i next (next at)))) → (x ≡ f at) ⊎ Mem x (several n f next (next at)) → (i : ℕ) × (i < suc n) × (x ≡ f (past i next at))
+      go : (Mem x (several n f next (next at)) → (i : ℕ) × (i < n) × (x ≡ f (past i next (next at)))) → (x ≡ f at) ⊎ Mem x (several n f next (next at))
+          → (i : ℕ) × (i < suc n) × (x ≡ f (past i next at))
       go rest (inl e) = (0, omega arith, e)
       go rest (inr k) = let (i, h, e) = rest k in (suc i, omega arith, e)
 
@@ -195,7 +196,10 @@ valid-grammar t e =
     record {
       small = small t v;
       one = dimension-is t v (byte t 6) (v .start .0) (v .start .1) ∙ v .one;
-      ranks = λ m. let (i, h, q) = several-mem (ruleAt t) (ruleEnd t) (number t 7) (firstRule t) m in rw q (omega (arith, several-length (byte t) (λ p. p + 1) (rankOf t (past i (ruleEnd t) (firstRule t))) (past i (ruleEnd t) (firstRule t) + 4), v .rules i h .rank));
+      ranks = λ m.
+          let (i, h, q) = several-mem (ruleAt t) (ruleEnd t) (number t 7) (firstRule t) m in
+          let at = past i (ruleEnd t) (firstRule t) in
+          rw q (omega (arith, several-length (byte t) (λ p. p + 1) (rankOf t at) (at + 4), v .rules i h .rank));
       linear = λ m. let (i, h, q) = several-mem (ruleAt t) (ruleEnd t) (number t 7) (firstRule t) m in rw q (linear t v _ (v .rules i h) (wholes t e i h));
       distinct = differ (ruleAt t) (ruleEnd t) (number t 7) (firstRule t) (λ i j k h. functions-differ t e i j k h);
     }

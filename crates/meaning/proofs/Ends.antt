@@ -9,7 +9,8 @@ use lib.Dec.{ltb, eqb}
 use borrow.Author.Tests.{ltb-false, eqb-true, eqb-false, not-false}
 use Rattle.meaning.specs.declared.Refusal.{Refusal}
 use Rattle.meaning.specs.declared.Refusal.the-variants.{Range, Category}
-use Rattle.meaning.specs.Table.{Got, got, refused, _>>_, refuse-if, times, member, byte, number, byteField, numberField, symbolField, dimension, category, rank, Used, unused, word, part, symbol, row, missing, rankOf, categoryOf, daughterOf, dimensionOf, outside, ruleHead, ruleBody, rule, rules, header, checkTable}
+use Rattle.meaning.specs.Table.{Got, got, refused, _>>_, refuse-if, times, member, byte, number, byteField, numberField, symbolField, dimension, category, rank}
+use Rattle.meaning.specs.Table.{Used, unused, word, part, symbol, row, missing, rankOf, categoryOf, daughterOf, dimensionOf, outside, ruleHead, ruleBody, rule, rules, header, checkTable}
 use Rattle.meaning.specs.Decode.{past, rowEnd, rowsOf, ruleEnd, firstRule}
 use Rattle.meaning.specs.Accepted.{FineRow, FineSymbol, Means}
 use Rattle.meaning.specs.Accepted.{FineRule, FineTable}

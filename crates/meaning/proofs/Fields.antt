@@ -9,7 +9,8 @@ use lib.Dec.{ltb, eqb}
 use borrow.Author.Tests.{ltb-false}
 use Rattle.meaning.specs.declared.Refusal.{Refusal}
 use Rattle.meaning.specs.declared.Refusal.the-variants.{Range}
-use Rattle.meaning.specs.Table.{Got, got, refused, _>>=_, _>>_, refuse-if, times, member, outside, byte, number, byteField, numberField, symbolField, limited, dimension, category, rank, ruleHead, limits, header}
+use Rattle.meaning.specs.Table.{Got, got, refused, _>>=_, _>>_, refuse-if, times, member, outside, byte, number, byteField, numberField, symbolField}
+use Rattle.meaning.specs.Table.{limited, dimension, category, rank, ruleHead, limits, header}
 use Rattle.meaning.specs.Accepted.{Dims, Headed}
 
 -- a test that was passed failed, and the rest was read

@@ -1,5 +1,5 @@
 -- The theory over meaning's definitions, each file over those before it: orders and tests, the two laws of trees and giving, charts over any
--- rules of deduction, what an accepted table is, the writers, that each call has one result, and the worked cases.
+-- rules of deduction, what an accepted table is, the writers, that each call has one result, and a test of a chart that can be computed.
 pub mod Order
 pub mod Tests
 pub mod Joining
@@ -26,4 +26,3 @@ pub mod Codes
 pub mod Yes
 pub mod Passing
 pub mod Lending
-pub mod Worked

@@ -11,6 +11,7 @@ use Rattle.meaning.specs.Order.{Each, Sorted, sorted-none, sorted-more}
 use Rattle.meaning.specs.Range.{Item}
 use Rattle.meaning.specs.Grammar.{Rule, Grammar}
 use Rattle.meaning.specs.Valid.{Valid}
+use Rattle.meaning.specs.Giving.{categories}
 use Rattle.meaning.specs.Chart.{Known, Entry, Way, knowns, items, things, item-of, Before, GivenBy, shown, records}
 use Rattle.meaning.specs.Decode.{past, several}
 use Rattle.meaning.specs.TreeWriting.{named, rankOf, recordAt, statedAt, entryAt, lent, Sound, TooMany, Passes, blank}
@@ -137,7 +138,8 @@ module _ {G : Grammar} (ws : List ℕ) (v : Valid G) where
   way-entry {e = e} {L = L} s w =
       let (r, f, g) = w .given in
       let n : named (G .rules) (e .function) ≡ some r = rw (← f) (found v r (g .known)) in
-      let q : length (e .places) ≡ length (r .daughters) = places-many L (e .places) (w .daughters) (w .found) ∙ sym (length-map (w .daughters) _) ∙ sym (length-map (things (w .daughters)) _) ∙ ap length (g .kinds) in
+      let m : length (categories (things (w .daughters))) ≡ length (w .daughters) = length-map (things (w .daughters)) _ ∙ length-map (w .daughters) _ in
+      let q : length (e .places) ≡ length (r .daughters) = places-many L (e .places) (w .daughters) (w .found) ∙ sym m ∙ ap length (g .kinds) in
       entry-is s G n (v .ranks (g .known)) q
 
   abbrev Ways : List (Entry Item) → Type 0

@@ -9,7 +9,8 @@ use lib.ListN.{length, getD}
 use lib.Dec.{ltb, eqb}
 use borrow.Author.Tests.{eqb-true, eq-eqb}
 use Rattle.meaning.specs.Grammar.{word as say, part as use-of, Symbol}
-use Rattle.meaning.specs.Table.{got, _>>_, times, outside, byte, byteField, symbolField, Used, unused, mark, word, part, symbol, row, missing, rankOf, categoryOf, daughterOf, dimensionOf, category, ruleHead, ruleBody, rule}
+use Rattle.meaning.specs.Table.{got, _>>_, times, outside, byte, byteField, symbolField, Used, unused, mark, word, part, symbol, row, missing}
+use Rattle.meaning.specs.Table.{rankOf, categoryOf, daughterOf, dimensionOf, category, ruleHead, ruleBody, rule}
 use Rattle.meaning.specs.Decode.{several, symbolAt, rowAt, rowEnd, rowsOf}
 use Rattle.meaning.specs.declared.Refusal.the-variants.{Range}
 use Rattle.meaning.proofs.Fields.{after, both, same, byte-there, headed}
@@ -213,7 +214,8 @@ body-whole t at next e =
     let m = after (missing t at (f .0 .1)) _ (got (f .0 .0)) next (f .2) in
     record {
       marked = f .0 .1;
-      tallied = subst (λ (q : ℕ). Tallies unused (several (dimensionOf t (categoryOf t at)) (rowAt t) (rowEnd t) q) (f .0 .1)) (d .0) (rows-tally t at (dimensionOf t (categoryOf t at)) (c .0, unused) (f .0) (f .1));
+      tallied = subst (λ (q : ℕ). Tallies unused (several (dimensionOf t (categoryOf t at)) (rowAt t) (rowEnd t) q) (f .0 .1)) (d .0)
+          (rows-tally t at (dimensionOf t (categoryOf t at)) (c .0, unused) (f .0) (f .1));
       full = m .0;
     }
 

@@ -17,7 +17,8 @@ use Rattle.meaning.specs.TreeWriting.{named}
 use Rattle.meaning.specs.SentenceWriting.{fits, walk, fault, Reads}
 
 -- a rule that is found is one of the rules, and has the function
-named-at : (b : Bool) (r : Rule) (rs : List Rule) (f : ℕ) {s : Rule} → eqb (r .function) f ≡ b → (named rs f ≡ some s → Mem s rs × (s .function ≡ f)) → cond b (some r) (named rs f) ≡ some s → Mem s (r ∷ rs) × (s .function ≡ f)
+named-at : (b : Bool) (r : Rule) (rs : List Rule) (f : ℕ) {s : Rule} → eqb (r .function) f ≡ b → (named rs f ≡ some s → Mem s rs × (s .function ≡ f))
+    → cond b (some r) (named rs f) ≡ some s → Mem s (r ∷ rs) × (s .function ≡ f)
 named-at true r rs f {s} e rec q = let h : s ≡ r = cc in (here h, ap (λ (r : Rule). r .function) h ∙ eqb-true (r .function) f e)
 named-at false r rs f e rec q = let (m, g) = rec q in (there m, g)
 
@@ -112,7 +113,8 @@ module _ (G : Grammar) where
 abbrev Some : Option Rule → Type 0
 Some o = (s : Rule) × (o ≡ some s)
 
-finds-at : (b : Bool) (x : Rule) (rs : List Rule) (r : Rule) → eqb (x .function) (r .function) ≡ b → Mem r (x ∷ rs) → (Mem r rs → Some (named rs (r .function))) → Some (cond b (some x) (named rs (r .function)))
+finds-at : (b : Bool) (x : Rule) (rs : List Rule) (r : Rule) → eqb (x .function) (r .function) ≡ b → Mem r (x ∷ rs) → (Mem r rs → Some (named rs (r .function)))
+    → Some (cond b (some x) (named rs (r .function)))
 finds-at true x rs r e m rec = (x, refl)
 finds-at false x rs r e (here q) rec = absurd (eqb-false (x .function) (r .function) e (ap (λ (r : Rule). r .function) (sym q)))
 finds-at false x rs r e (there m) rec = rec m

@@ -1,5 +1,5 @@
--- Charts: document 01, 'Phrases' (height, chosen rule and daughters) and 'The chart'. First over any items A, what is made at a
--- number of levels, and what a function number gives from daughters; then for a sentence.
+-- Charts: document 01, 'Phrases' (height, chosen rule and daughters) and 'The chart'. First over any items A, an order of them (Ahead),
+-- what is made in a number of levels (MadeIn), and what a function number gives from daughters (GivenAs); then for a sentence.
 use mathlib.Core.Path.{_≡_}
 use mathlib.Core.Option.{some as just}
 use mathlib.Core.List.{List, [], _∷_, _++_, map, List·Memᴰ as Mem}
@@ -45,28 +45,28 @@ tallest [] = 0
 tallest (d ∷ ds) = max (d .height) (tallest ds)
 
 -- the function f, with the daughters at the places ps of L, gives 'exactly this item', and they 'have greatest height one less than its own'
-pub record Way {A : Type 0} (Gives : ℕ → List A → A → Type 0) (L : List (Known A)) (e : Known A) (f : ℕ) (ps : List ℕ) : Type 0 where
+pub record Way {A : Type 0} (GivenAs : ℕ → List A → A → Type 0) (L : List (Known A)) (e : Known A) (f : ℕ) (ps : List ℕ) : Type 0 where
   pub daughters : List (Known A)
   pub found : map (getElem? L) ps ≡ map just daughters
-  pub given : Gives f (things daughters) (e .item)
+  pub given : GivenAs f (things daughters) (e .item)
   pub high : e .height ≡ suc (tallest daughters)
 
 -- 'An item's height is the fewest levels of any tree that makes it true'
-pub record Least {A : Type 0} (Made : A → ℕ → Type 0) (e : Known A) : Type 0 where
-  pub made : Made (e .item) (e .height)
-  pub least : (m : ℕ) → Made (e .item) m → e .height ≤ m
+pub record Least {A : Type 0} (MadeIn : A → ℕ → Type 0) (e : Known A) : Type 0 where
+  pub made : MadeIn (e .item) (e .height)
+  pub least : (m : ℕ) → MadeIn (e .item) m → e .height ≤ m
 
--- 'take the first function number, then the first sequence of daughters in chart order'
-pub record Chosen {A : Type 0} (Gives : ℕ → List A → A → Type 0) (L : List (Known A)) (e : Entry A) : Type 0 where
-  pub way : Way Gives L (e .known) (e .function) (e .places)
-  pub first : (f : ℕ) (ps : List ℕ) → Way Gives L (e .known) f ps → Lex (f ∷ ps) (e .function ∷ e .places) → ⊥
+-- 'take the first function number, then the first sequence of daughters in chart order'; its rivals are the ways to exactly this height
+pub record Chosen {A : Type 0} (GivenAs : ℕ → List A → A → Type 0) (L : List (Known A)) (e : Entry A) : Type 0 where
+  pub way : Way GivenAs L (e .known) (e .function) (e .places)
+  pub first : (f : ℕ) (ps : List ℕ) → Way GivenAs L (e .known) f ps → Lex (f ∷ ps) (e .function ∷ e .places) → ⊥
 
 -- 'all true items stand once each in order'
-pub record IsChart {A : Type 0} (Before : A → A → Type 0) (Made : A → ℕ → Type 0) (Gives : ℕ → List A → A → Type 0) (C : List (Entry A)) : Type 0 where
-  pub sorted : Sorted Before (items C)
-  pub whole : (x : A) (m : ℕ) → Made x m → Mem x (items C)
-  pub heights : Each (λ e. Least Made (e .known)) C
-  pub choices : Each (Chosen Gives (knowns C)) C
+pub record IsChart {A : Type 0} (Ahead : A → A → Type 0) (MadeIn : A → ℕ → Type 0) (GivenAs : ℕ → List A → A → Type 0) (C : List (Entry A)) : Type 0 where
+  pub sorted : Sorted Ahead (items C)
+  pub whole : (x : A) (m : ℕ) → MadeIn x m → Mem x (items C)
+  pub heights : Each (λ e. Least MadeIn (e .known)) C
+  pub choices : Each (Chosen GivenAs (knowns C)) C
 
 -- 'Chart order'
 unfoldable pub Before : Item → Item → Type 0

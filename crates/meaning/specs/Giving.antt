@@ -38,7 +38,10 @@ held ds k c = at (getD ds k nothing) c
 abbrev pub categories : List Item → List ℕ
 categories ds = map (λ (d : Item). d .category) ds
 
--- x is one of the items that the rule and these daughters can give in these words
+-- x is one of the items that the rule and these daughters can give in these words.
+-- Of an accepted table the true items are those that giving reaches: in a first round from no daughters, in a later one from items of the
+-- rounds before it; and an item's height is the first round that gives it. This is proved: what is given from true items is true and what is
+-- true is given (`step`, `inverse` of proofs/Laws), one level above the tallest daughter (`deduction` of proofs/Charts).
 pub record Gives (G : Grammar) (ws : List ℕ) (r : Rule) (ds : List Item) (x : Item) : Type 0 where
   pub known : Mem r (G .rules)
   pub kind : x .category ≡ r .category

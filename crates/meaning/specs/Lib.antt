@@ -10,7 +10,6 @@ pub mod Decode
 pub mod Reading
 pub mod TreeWriting
 pub mod SentenceWriting
-pub mod Worked
 -- What is proved of accepted tables: statements, not to be believed.
 pub mod Accepted
 pub mod Valid

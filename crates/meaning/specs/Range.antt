@@ -30,7 +30,7 @@ pub record Spans (ws : List ℕ) (r : Range) (c : List ℕ) : Type 0 where
 abbrev pub isNone : Range → Bool
 isNone p = eqb (p .from) 0 && eqb (p .to) 0
 
--- 'Joining: (0, 0) on either side gives the other range; (s, e) with (e, f) gives (s, f); other pairs don't join'
+-- 'Joining: (0, 0) on either side gives the other range; (s, e) with (e, f) gives (s, f); other pairs don't join': they stay `apart`
 unfoldable pub joined : Range → Range → Option Range
 joined p q =
     cond (isNone p) (just q)
@@ -49,7 +49,7 @@ pub record Item : Type 0 where
 abbrev pub nothing : Item
 nothing = record { category = 0; one = none; two = none; three = none }
 
--- range i of an item, from 0; the empty one past the third
+-- range i of an item, from 0; the empty one past the third (a variable `at` is always a place in a table)
 abbrev pub at : Item → ℕ → Range
 at x i = getD (x .one ∷ x .two ∷ x .three ∷ []) i none
 

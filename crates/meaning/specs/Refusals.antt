@@ -1,9 +1,9 @@
--- The refusals of a table and of a sentence: document 01, 'Numbers handed back', codes 2 to 15.
+-- The codes of document 01, 'Numbers handed back', each once, and the places of the codes 2 to 15: those of a table and of a sentence.
 use Prim.Native.Nat.{ℕ}
 use Rattle.meaning.specs.declared.Refusal.{Refusal}
 use Rattle.meaning.specs.declared.Refusal.the-variants.{Short, Mark, Version, Range, Category, Function, Symbol, Twice, Missing, Start, Trailing, Long, Odd, ZeroWord}
 
--- the column 'Code'
+-- the column 'Code' of these
 abbrev pub codeOf : Refusal → ℕ
 codeOf (Short p) = 2
 codeOf Mark = 3
@@ -20,7 +20,14 @@ codeOf Long = 13
 codeOf (Odd p) = 14
 codeOf (ZeroWord p) = 15
 
--- the column 'Place'; where it hangs on the input, the definition that refuses says it
+-- every other end of a call, and its code; `Done` is a yes, or that the tree or the text is written
+pub data Ending : Type 0 where
+  Done No Full Chart Place TreeRoom TreeList TextRoom Deep : Ending
+
+abbrev pub code : Ending → ℕ
+code = elim [ Done ↦ 0 | No ↦ 1 | Full ↦ 16 | Chart ↦ 17 | Place ↦ 18 | TreeRoom ↦ 19 | TreeList ↦ 20 | TextRoom ↦ 21 | Deep ↦ 22 ]
+
+-- the column 'Place' of the refusals; where it hangs on the input, the definition that refuses says it
 abbrev pub placeOf : Refusal → ℕ
 placeOf (Short p) = p
 placeOf Mark = 0

@@ -7,7 +7,8 @@ use Prim.Native.Nat.{ℕ, _+_, _≤_, _<_}
 use lib.Dec.{eqb}
 use lib.ListN.{length, getD, drop}
 use Rattle.meaning.specs.declared.Refusal.{Refusal}
-use Rattle.meaning.specs.Refusals.{codeOf, placeOf}
+use Rattle.meaning.specs.Refusals.{codeOf, placeOf, code}
+use Rattle.meaning.specs.Refusals as ending
 use Rattle.meaning.specs.Table.{got, refused, checkTable}
 use Rattle.meaning.specs.Decode.{grammarOf}
 use Rattle.meaning.specs.Grammar.{Rule, Grammar, Tree, Of, functions, spell}
@@ -41,12 +42,12 @@ words t = getD (spell t) 0 []
 
 -- The sentence writer's code, place, count and the whole slice after the call, for every input. 'more than 255 nodes (place 255, before
 -- the rest)'; '21 Text room: more words than the slice holds; words needed'; 'It writes the words, leaves the rest'.
-pub data SentenceWritten (table list before : List ℕ) : ℕ → ℕ → ℕ → List ℕ → Type 0 where
-  bad-table : {r : Refusal} → checkTable table ≡ refused r → SentenceWritten table list before (codeOf r) (placeOf r) 0 before
-  too-many : checkTable table ≡ got tt → 255 < length list → SentenceWritten table list before 20 255 0 before
-  wrong : {i : ℕ} → checkTable table ≡ got tt → length list ≤ 255 → fault (grammarOf table) list ≡ some i
-      → SentenceWritten table list before 20 i 0 before
-  no-room : {t : Tree} → checkTable table ≡ got tt → length list ≤ 255 → Reads (grammarOf table) list t → length before < length (words t)
-      → SentenceWritten table list before 21 (length (words t)) 0 before
-  wrote : {t : Tree} → checkTable table ≡ got tt → length list ≤ 255 → Reads (grammarOf table) list t → length (words t) ≤ length before
-      → SentenceWritten table list before 0 0 (length (words t)) (words t ++ drop (length (words t)) before)
+module _ (table list before : List ℕ) where
+  pub data SentenceWritten : ℕ → ℕ → ℕ → List ℕ → Type 0 where
+    bad-table : {r : Refusal} → checkTable table ≡ refused r → SentenceWritten (codeOf r) (placeOf r) 0 before
+    too-many : checkTable table ≡ got tt → 255 < length list → SentenceWritten (code ending.TreeList) 255 0 before
+    wrong : {i : ℕ} → checkTable table ≡ got tt → length list ≤ 255 → fault (grammarOf table) list ≡ some i → SentenceWritten (code ending.TreeList) i 0 before
+    no-room : {t : Tree} → checkTable table ≡ got tt → length list ≤ 255 → Reads (grammarOf table) list t
+        → length before < length (words t) → SentenceWritten (code ending.TextRoom) (length (words t)) 0 before
+    wrote : {t : Tree} → checkTable table ≡ got tt → length list ≤ 255 → Reads (grammarOf table) list t
+        → length (words t) ≤ length before → SentenceWritten (code ending.Done) 0 (length (words t)) (words t ++ drop (length (words t)) before)

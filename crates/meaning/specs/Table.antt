@@ -1,5 +1,6 @@
 -- When a rule table is refused, and where: document 01, 'The rule table, version 1' and 'Numbers handed back'.
--- Each definition reads its fields in byte order, a line for each refusal; the first that holds is given.
+-- Each definition reads its fields in byte order, a line for each refusal; the first that holds is given. A name such as `dimension`,
+-- `word`, `part` or `row` is here the check of that field; in Grammar it is the thing itself.
 use Prim.Native.Nat.{ℕ, zero, suc, _+_, _*_, _-_}
 use mathlib.Core.List.{List, [], _∷_}
 use mathlib.Core.Bool.{Bool, true, false, not, cond, _&&_, _||_}
@@ -63,7 +64,7 @@ numberField t at = do
   refuse-if (ltb (length t) (at + 2)) (Short (length t))
   got (number t at, at + 2)
 
--- 'fewer than nine bytes is Short; then header fields': the mark MCG, the version, K, the start, the number of rules
+-- the header's last three fields: K, the start, the number of rules
 unfoldable pub limits : List ℕ → Got ℕ
 limits t = do
   refuse-if (outside 1 64 (byte t 5)) (Range 5)
@@ -71,6 +72,7 @@ limits t = do
   refuse-if (ltb 256 (number t 7)) (Range 7)
   got 9
 
+-- 'fewer than nine bytes is Short; then header fields': the mark MCG, the version, then these
 unfoldable pub header : List ℕ → Got ℕ
 header t = do
   refuse-if (ltb (length t) 9) (Short (length t))

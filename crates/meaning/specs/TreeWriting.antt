@@ -9,7 +9,8 @@ use lib.Dec.{eqb}
 use lib.ListN.{length, getD, take, drop}
 use lib.Seq.{slice}
 use Rattle.meaning.specs.declared.Refusal.{Refusal}
-use Rattle.meaning.specs.Refusals.{codeOf, placeOf}
+use Rattle.meaning.specs.Refusals.{codeOf, placeOf, code}
+use Rattle.meaning.specs.Refusals as ending
 use Rattle.meaning.specs.Table.{got, refused}
 use Rattle.meaning.specs.Decode.{several, grammarOf, wordsOf, checkInput}
 use Rattle.meaning.specs.Range.{Item, nothing}
@@ -21,6 +22,7 @@ unfoldable pub named : List Rule → ℕ → Option Rule
 named [] f = none
 named (r ∷ rs) f = cond (eqb (r .function) f) (some r) (named rs f)
 
+-- its number of daughters, 0 where there is no rule (Table's `rankOf` reads it from the bytes)
 abbrev pub rankOf : Option Rule → ℕ
 rankOf none = 0
 rankOf (some r) = length (r .daughters)
@@ -49,9 +51,10 @@ entryAt G c i = record {
 unfoldable pub lent : Grammar → List ℕ → ℕ → List (Entry Item)
 lent G c n = several n (entryAt G c) suc 0
 
--- A record that is not bad: it 'is after its predecessor in chart order', its unused numbers are 0, and it is a way: its function is
--- known, its daughters are below the count, it is 'one of the items that its function and daughters can give in these words', and its
--- height is 'one more than the greatest of its daughters' (1 without daughters)'.
+-- A record that is not bad. It is judged by the numbers of its daughters as they stand, so it may be sound although a daughter is bad.
+-- `order`: it 'is after its predecessor in chart order'. `unused`: the places beyond its function's rank are 0. `way`: its function is known,
+-- its daughters are below the count, it is 'one of the items that its function and daughters can give in these words' (a range beyond the
+-- rule's rows is then 0, 0), and its height is 'one more than the greatest of its daughters' (1 without daughters)'.
 pub record Sound (G : Grammar) (ws c : List ℕ) (count i : ℕ) : Type 0 where
   pub order : 0 < i → Before (statedAt c (i - 1) .item) (statedAt c i .item)
   pub unused : shown (entryAt G c i) ≡ recordAt c i
@@ -75,7 +78,8 @@ pub record FirstBad (G : Grammar) (ws c : List ℕ) (count i : ℕ) : Type 0 whe
 abbrev pub blank : Entry Item
 blank = record { known = record { item = nothing; height = 0 }; function = 0; places = [] }
 
--- the function numbers of the tree at a place, 'each node before its daughters', down to n levels
+-- the function numbers of the tree at a place, 'each node before its daughters', down to n levels. The list may be far longer than any
+-- room (daughters are shared: '20 rules can make a million nodes'); only whether it fits, and it where it does, is asked for.
 unfoldable pub told : ℕ → List (Entry Item) → ℕ → List ℕ
 told zero C p = []
 told (suc n) C p = getD C p blank .function ∷ foldr (λ q l. told n C q ++ l) [] (getD C p blank .places)
@@ -90,16 +94,13 @@ treeRoom before = min (length before) 255
 
 -- The tree writer's code, place, count and the whole slice after the call, for every input.
 -- '17 ..; then 18; then 19.' 'Numbers after them stay as lent.' 'Refusals by either write nothing.'
-pub data TreeWritten (table words chart : List ℕ) (count root : ℕ) (before : List ℕ) : ℕ → ℕ → ℕ → List ℕ → Type 0 where
-  bad-input : {r : Refusal} → checkInput table words ≡ refused r → TreeWritten table words chart count root before (codeOf r) (placeOf r) 0 before
-  too-many : checkInput table words ≡ got tt → TooMany chart count → TreeWritten table words chart count root before 17 0 0 before
-  bad-record : {i : ℕ} → checkInput table words ≡ got tt → FirstBad (grammarOf table) (wordsOf words) chart count i
-      → TreeWritten table words chart count root before 17 i 0 before
-  no-place : checkInput table words ≡ got tt → Passes (grammarOf table) (wordsOf words) chart count → count ≤ root
-      → TreeWritten table words chart count root before 18 root 0 before
-  no-room : checkInput table words ≡ got tt → Passes (grammarOf table) (wordsOf words) chart count → root < count
-      → treeRoom before < length (nodes (grammarOf table) chart count root)
-      → TreeWritten table words chart count root before 19 (treeRoom before) 0 before
-  wrote : {ns : List ℕ} → checkInput table words ≡ got tt → Passes (grammarOf table) (wordsOf words) chart count → root < count
-      → ns ≡ nodes (grammarOf table) chart count root → length ns ≤ treeRoom before
-      → TreeWritten table words chart count root before 0 0 (length ns) (ns ++ drop (length ns) before)
+module _ (table words chart : List ℕ) (count root : ℕ) (before : List ℕ) where
+  pub data TreeWritten : ℕ → ℕ → ℕ → List ℕ → Type 0 where
+    bad-input : {r : Refusal} → checkInput table words ≡ refused r → TreeWritten (codeOf r) (placeOf r) 0 before
+    too-many : checkInput table words ≡ got tt → TooMany chart count → TreeWritten (code ending.Chart) 0 0 before
+    bad-record : {i : ℕ} → checkInput table words ≡ got tt → FirstBad (grammarOf table) (wordsOf words) chart count i → TreeWritten (code ending.Chart) i 0 before
+    no-place : checkInput table words ≡ got tt → Passes (grammarOf table) (wordsOf words) chart count → count ≤ root → TreeWritten (code ending.Place) root 0 before
+    no-room : checkInput table words ≡ got tt → Passes (grammarOf table) (wordsOf words) chart count → root < count
+        → treeRoom before < length (nodes (grammarOf table) chart count root) → TreeWritten (code ending.TreeRoom) (treeRoom before) 0 before
+    wrote : {ns : List ℕ} → checkInput table words ≡ got tt → Passes (grammarOf table) (wordsOf words) chart count → root < count
+        → ns ≡ nodes (grammarOf table) chart count root → length ns ≤ treeRoom before → TreeWritten (code ending.Done) 0 (length ns) (ns ++ drop (length ns) before)

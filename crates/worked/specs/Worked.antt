@@ -48,14 +48,15 @@ pub data Call : Type 0 where
   tree-writer : (table words chart : List ℕ) (count root : ℕ) (tree : List ℕ) → Call
   sentence-writer : (table list text : List ℕ) → Call
 
--- a call, and the code, place, count and slice that it must answer; of a Full also the chart that has no room
+-- a call, and the code, place, count and slice that it must answer. Where that is Full, `whole-chart` is the chart for which there is no
+-- room: the answer does not show it, and the proof needs it to show that there are so many items. Elsewhere it is empty.
 pub record Case : Type 0 where
   pub call : Call
   pub code : ℕ
   pub place : ℕ
   pub count : ℕ
   pub after : List ℕ
-  pub chart : List ℕ
+  pub whole-chart : List ℕ
 
 abbrev pub Answers : Call → ℕ → ℕ → ℕ → List ℕ → Type 0
 Answers (reader t w a c) = Read t w a c
@@ -65,8 +66,9 @@ Answers (sentence-writer t l s) = SentenceWritten t l s
 abbrev pub Holds : Case → Type 0
 Holds c = Answers (c .call) (c .code) (c .place) (c .count) (c .after)
 
+-- a line of the table
 abbrev case : Call → ℕ → ℕ → ℕ → List ℕ → List ℕ → Case
-case k c p n a w = record { call = k; code = c; place = p; count = n; after = a; chart = w }
+case k c p n a w = record { call = k; code = c; place = p; count = n; after = a; whole-chart = w }
 
 abbrev pub copy-chart : List ℕ
 copy-chart =

@@ -6,23 +6,25 @@ use mathlib.Core.List.{List, [], _++_}
 use Prim.Native.Nat.{ℕ, _+_, _-_, _/_, _<_}
 use lib.Dec.{T, leb, ltb, eqb, leb→le, ltb→lt, eqb→eq}
 use lib.ListN.{length, drop}
-use Rattle.meaning.specs.Refusals.{codeOf, placeOf}
-use Rattle.meaning.specs.Table.{Got, got, refused, times, any, member, outside, number, byteField, numberField, symbolField, header, limits, limited, unused, mark, word, part, symbol, row, missing, ruleHead, ruleBody, rule, rules, checkTable}
+use Rattle.meaning.specs.Refusals.{codeOf, placeOf, code}
+use Rattle.meaning.specs.Refusals as ending
+use Rattle.meaning.specs.Table.{Got, got, refused, times, any, member, outside, number, byteField, numberField, symbolField, header, limits, limited}
+use Rattle.meaning.specs.Table.{unused, mark, word, part, symbol, row, missing, ruleHead, ruleBody, rule, rules, checkTable}
 use Rattle.meaning.specs.Decode.{past, several, symbolAt, rowAt, rowEnd, ruleAt, ruleEnd, grammarOf, wordsOf, wordThere, checkWords, checkInput}
-use Rattle.meaning.specs.Order.{Each}
+use Rattle.meaning.specs.Order.{Each, each-none, each-more}
 use Rattle.meaning.specs.Range.{Item, joined, numbers}
 use Rattle.meaning.specs.Chart.{Entry, tallest, shown, records}
 use Rattle.meaning.specs.Reading.{allowed, room, laid, cleared, Read, bad-input, full, read}
 use Rattle.meaning.specs.TreeWriting.{named, statedAt, entryAt, lent, told, nodes, treeRoom, Passes, TreeWritten}
 use Rattle.meaning.specs.TreeWriting as tree
 use Rattle.meaning.specs.SentenceWriting.{walk, fault, SentenceWritten, wrong}
-use Rattle.meaning.specs.Worked.{Call, reader, tree-writer, sentence-writer, Case, Answers, Holds, cases}
+use Rattle.worked.specs.Worked.{Call, reader, tree-writer, sentence-writer, Case, Answers, Holds, cases}
 use Rattle.meaning.proofs.Order.{each-map}
-use Rattle.meaning.proofs.Tests.{both, all-each, eqs, eqs→eq}
+use Rattle.meaning.proofs.Tests.{both, eqs, eqs→eq}
 use Rattle.meaning.proofs.Charts.{over}
 use Rattle.meaning.proofs.Check.{check, checked, verdictb, verdict}
 use Rattle.meaning.proofs.Passing.{passes}
 use Rattle.meaning.proofs.Determined.{valid-input}
 
 -- an answer's three numbers and slice are these
 abbrev saysb : ℕ → ℕ → ℕ → List ℕ → ℕ → ℕ → ℕ → List ℕ → Bool
@@ -38,14 +40,14 @@ says P {c} {p} {n} {a} {c′} {p′} {n′} {a′} t h =
 -- the reader: refused before the chart; more items than room, shown by a chart; or the chart itself
 module _ (t w : List ℕ) (a : ℕ) (b : List ℕ) (c p n : ℕ) (s : List ℕ) where
   abbrev fullb : List (Entry Item) → Bool
-  fullb C = (check (grammarOf t) (wordsOf w) C && ltb (room a b) (length C)) && saysb c p n s 16 (room a b) 0 (cleared b)
+  fullb C = (check (grammarOf t) (wordsOf w) C && ltb (room a b) (length C)) && saysb c p n s (code ending.Full) (room a b) 0 (cleared b)
 
   abbrev readb : List (Entry Item) → Bool
   readb C = (check (grammarOf t) (wordsOf w) C && leb (length C) (room a b)) && (verdictb (grammarOf t) (wordsOf w) C c p && saysb c p n s c p (length C) (laid C b))
 
   abbrev readerb : Got (Unit {0}) → List ℕ → Bool
   readerb (refused r) chart = saysb c p n s (codeOf r) (placeOf r) 0 b
-  readerb (got u) chart = cond (eqb c 16) (fullb (lent (grammarOf t) chart (length chart / 12))) (readb (lent (grammarOf t) s n))
+  readerb (got u) chart = cond (eqb c (code ending.Full)) (fullb (lent (grammarOf t) chart (length chart / 12))) (readb (lent (grammarOf t) s n))
 
   full-holds : checkInput t w ≡ got tt → (C : List (Entry Item)) → T (fullb C) → Read t w a b c p n s
   full-holds e C h =
@@ -62,7 +64,7 @@ module _ (t w : List ℕ) (a : ℕ) (b : List ℕ) (c p n : ℕ) (s : List ℕ) 
 
   reader-holds : (g : Got (Unit {0})) (chart : List ℕ) → checkInput t w ≡ g → T (readerb g chart) → Read t w a b c p n s
   reader-holds (refused r) chart e h = says (Read t w a b) h (bad-input e)
-  reader-holds (got tt) chart e h = go (eqb c 16) h
+  reader-holds (got tt) chart e h = go (eqb c (code ending.Full)) h
     where
       go : (x : Bool) → T (cond x (fullb (lent (grammarOf t) chart (length chart / 12))) (readb (lent (grammarOf t) s n))) → Read t w a b c p n s
       go true k = full-holds e (lent (grammarOf t) chart (length chart / 12)) k
@@ -80,7 +82,7 @@ module _ (t w chart : List ℕ) (count root : ℕ) (b : List ℕ) (c p n : ℕ) 
   ownb = (eqs chart (records own ++ []) && eqb count (length own)) && ((leb count 2000 && ltb root count) && check (grammarOf t) (wordsOf w) own)
 
   abbrev writtenb : Bool
-  writtenb = cond (ltb (treeRoom b) (length ns)) (saysb c p n s 19 (treeRoom b) 0 b) (leb (length ns) (treeRoom b) && saysb c p n s 0 0 (length ns) (ns ++ drop (length ns) b))
+  writtenb = cond (ltb (treeRoom b) (length ns)) (saysb c p n s (code ending.TreeRoom) (treeRoom b) 0 b) (leb (length ns) (treeRoom b) && saysb c p n s (code ending.Done) 0 (length ns) (ns ++ drop (length ns) b))
 
   abbrev treeb : Got (Unit {0}) → Bool
   treeb (refused r) = false
@@ -103,7 +105,7 @@ module _ (t w chart : List ℕ) (count root : ℕ) (b : List ℕ) (c p n : ℕ) 
   tree-holds (got tt) e h = let (u, v) = both ownb writtenb h in let (x, y) = own-passes e u in go x y (ltb (treeRoom b) (length ns)) (ltb→lt (treeRoom b) (length ns)) v
     where
       go : Passes (grammarOf t) (wordsOf w) chart count → root < count → (z : Bool) → (T z → treeRoom b < length ns)
-          → T (cond z (saysb c p n s 19 (treeRoom b) 0 b) (leb (length ns) (treeRoom b) && saysb c p n s 0 0 (length ns) (ns ++ drop (length ns) b))) → TreeWritten t w chart count root b c p n s
+          → T (cond z (saysb c p n s (code ending.TreeRoom) (treeRoom b) 0 b) (leb (length ns) (treeRoom b) && saysb c p n s (code ending.Done) 0 (length ns) (ns ++ drop (length ns) b))) → TreeWritten t w chart count root b c p n s
       go x y true l k = says (TreeWritten t w chart count root b) k (tree.no-room e x y (l tt))
       go x y false l k = let (i, j) = both (leb (length ns) (treeRoom b)) _ k in says (TreeWritten t w chart count root b) j (tree.wrote e x y refl (leb→le _ _ i))
 
@@ -112,7 +114,7 @@ module _ (t l b : List ℕ) (c p n : ℕ) (s : List ℕ) where
   abbrev sentenceb : Got (Unit {0}) → Option ℕ → Bool
   sentenceb (refused r) o = false
   sentenceb (got u) none = false
-  sentenceb (got u) (some i) = leb (length l) 255 && saysb c p n s 20 i 0 b
+  sentenceb (got u) (some i) = leb (length l) 255 && saysb c p n s (code ending.TreeList) i 0 b
 
   sentence-holds : (g : Got (Unit {0})) (o : Option ℕ) → checkTable t ≡ g → fault (grammarOf t) l ≡ o → T (sentenceb g o) → SentenceWritten t l b c p n s
   sentence-holds (refused r) o e f h = absurd h
@@ -126,7 +128,7 @@ callb (tree-writer t w k i r b) c p n s chart = treeb t w k i r b c p n s (check
 callb (sentence-writer t l b) c p n s chart = sentenceb t l b c p n s (checkTable t) (fault (grammarOf t) l)
 
 abbrev holdsb : Case → Bool
-holdsb k = callb (k .call) (k .code) (k .place) (k .count) (k .after) (k .chart)
+holdsb k = callb (k .call) (k .code) (k .place) (k .count) (k .after) (k .whole-chart)
 
 call-holds : (k : Call) (c p n : ℕ) (s chart : List ℕ) → T (callb k c p n s chart) → Answers k c p n s
 call-holds (reader t w a b) c p n s chart h = reader-holds t w a b c p n s (checkInput t w) chart refl h
@@ -135,5 +137,13 @@ call-holds (sentence-writer t l b) c p n s chart h = sentence-holds t l b c p n 
 
 -- document 01's eleven cases
 pub worked : Each Holds cases
-unfolding times any member outside number byteField numberField symbolField header limits limited unused mark word part symbol row missing ruleHead ruleBody rule rules checkTable past several symbolAt rowAt rowEnd ruleAt ruleEnd grammarOf wordsOf wordThere checkWords checkInput joined numbers tallest shown records allowed room named statedAt entryAt lent told nodes walk
-worked = each-map (λ k t. call-holds (k .call) (k .code) (k .place) (k .count) (k .after) (k .chart) t) (all-each holdsb cases tt)
+unfolding times any member outside number byteField numberField symbolField header limits limited unused mark word part symbol row missing
+    ruleHead ruleBody rule rules checkTable past several symbolAt rowAt rowEnd ruleAt ruleEnd grammarOf wordsOf wordThere checkWords checkInput
+    joined numbers tallest shown records allowed room named statedAt entryAt lent told nodes walk
+worked = each-map (λ k t. call-holds (k .call) (k .code) (k .place) (k .count) (k .after) (k .whole-chart) t) tested
+  where
+    -- the test of each case is computed
+    tested : Each (λ k. T (holdsb k)) cases
+    tested =
+        each-more tt (each-more tt (each-more tt (each-more tt (each-more tt (each-more tt (each-more tt (each-more tt (each-more tt (each-more tt (each-more tt
+        each-none))))))))))

@@ -1,0 +1,2 @@
+-- That each worked case holds.
+pub mod Worked

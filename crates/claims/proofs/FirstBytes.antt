@@ -8,7 +8,7 @@ use mathlib.Core.Bool.{not}
 use mathlib.Core.List.{List, []}
 use native.Mathlib.Omega.{arith}
 use native.Mathlib.Decide.{decLe}
-use lib.ListN.{length, take}
+use lib.ListN.{length}
 use lib.Seq.{take-all, length-take-le, getD-take}
 use lib.Dec.{ltb, eqb}
 use borrow.Author.Tests.{lt-ltb}
@@ -22,14 +22,15 @@ use Rattle.meaning.specs.SentenceWriting.{SentenceWritten}
 use Rattle.meaning.proofs.Fields.{both, same, header-there, dims-there}
 use Rattle.meaning.proofs.Ends.{rule-end, first-there}
 use Rattle.meaning.proofs.Places.{row-is, first-is, rows-are, rule-most, table-most}
+use Rattle.claims.specs.Across.{enough, firstBytes}
 use Rattle.claims.proofs.Alike.{Equal, alike-next, alike-test, alike-map, times-alike, times-keeps, alike-same, same-alike, Alike, both-refused}
 use Rattle.claims.proofs.Windows.{Window, at-start, same-place, unmoved, byte-same, number-same, RowRoom, RuleRoom, rule-alike, header-same, same-top, dims-same}
 use Rattle.claims.proofs.Carry.{SameRules, itself, turned, read-carried, tree-carried, sentence-carried}
 
 -- two tables that both have the same first 40,000 bytes
-module _ {t u : List ℕ} (w : Window t u 0 0 40000) where
+module _ {t u : List ℕ} (w : Window t u 0 0 enough) where
   -- a rule takes at most 154 bytes, a row 49, and so there is room
-  rows-room : RowRoom t 40000 (λ n at. at + n * 49 ≤ 40000)
+  rows-room : RowRoom t enough (λ n at. at + n * 49 ≤ enough)
   rows-room = record {
     one = λ n at i. omega arith;
     end = λ n at i h. omega (arith, row-is t at);
@@ -37,7 +38,7 @@ module _ {t u : List ℕ} (w : Window t u 0 0 40000) where
   }
 
   module _ (few : byte t 5 ≤ 64) (dims : Dims t) where
-    rule-room : (at : ℕ) → at + 154 ≤ 40000 → RuleRoom t 40000 (λ n at. at + n * 49 ≤ 40000) at
+    rule-room : (at : ℕ) → at + 154 ≤ enough → RuleRoom t enough (λ n at. at + n * 49 ≤ enough) at
     rule-room at h = record {
       head = omega arith;
       body = λ r low high. (omega (arith, rows-are t at), omega (arith, rows-are t at, dims (categoryOf t at) low high));
@@ -48,7 +49,7 @@ module _ {t u : List ℕ} (w : Window t u 0 0 40000) where
         let (p, f) = rule-end t a a′ e in
         omega (arith, p, rule-most t (a .0) (dims (categoryOf t (a .0)) (f .low) (f .high)) f)
 
-    rule-same : (a b : ℕ × List ℕ) → a .0 + 154 ≤ 40000 → a ≡ b → Alike Equal Equal (rule t a) (rule u b)
+    rule-same : (a b : ℕ × List ℕ) → a .0 + 154 ≤ enough → a ≡ b → Alike Equal Equal (rule t a) (rule u b)
     rule-same a b i e = subst (λ c. Alike Equal Equal (rule t a) (rule u c)) e
         (alike-map Equal (λ x y (p, q, r) i. (same-place p i, (q ∙ sym r) i))
         (rule-alike w Equal unmoved (same-top w (omega arith) (omega arith)) rows-room a a (at-start (a .0)) (rule-room (a .0) i) refl))
@@ -82,42 +83,43 @@ module _ {t u : List ℕ} (w : Window t u 0 0 40000) where
   unfolding checkTable
   check-same = alike-same (alike-next Equal _ _ (same-alike (header t) (header-same w (omega arith))) (λ p p′ read e.
       let (nine, count, long, cats, start) = header-there t p read in
-      let d : times (byte t 5) (dimension t) p ≡ times (byte u 5) (dimension u) p′ = ap (times (byte t 5) (dimension t)) nine ∙ dims-same w (omega arith) (omega arith) ∙ ap (times (byte u 5) (dimension u)) (sym nine ∙ e) in
+      let d : times (byte t 5) (dimension t) p ≡ times (byte u 5) (dimension u) p′ =
+      ap (times (byte t 5) (dimension t)) nine ∙ dims-same w (omega arith) (omega arith) ∙ ap (times (byte u 5) (dimension u)) (sym nine ∙ e) in
       alike-next Equal _ _ (same-alike (times (byte t 5) (dimension t) p) d) (λ q q′ read′ e′.
       rest-alike (cats .1) (dims-there t p q nine read′) (start .0) (start .1) count q q′ (omega (arith, first-there t p q read read′, first-is t)) e′)))
 
 -- the check's answer for the first 40,000 bytes is that for the whole
-pub check-first : (t : List ℕ) → checkTable (take 40000 t) ≡ checkTable t
-check-first t = go (decLe (length t) 40000)
+pub check-first : (t : List ℕ) → checkTable (firstBytes t) ≡ checkTable t
+check-first t = go (decLe (length t) enough)
   where
-    go : Dec (length t ≤ 40000) → checkTable (take 40000 t) ≡ checkTable t
-    go (yes h) = ap checkTable (take-all 40000 t h)
+    go : Dec (length t ≤ enough) → checkTable (firstBytes t) ≡ checkTable t
+    go (yes h) = ap checkTable (take-all enough t h)
     go (no h) = sym (check-same (record {
       fits = omega arith;
-      fits′ = omega (arith, length-take-le 40000 t (omega arith));
-      copied = record { bytes = λ i l. sym (getD-take 40000 t (0 + i) 0 l) };
+      fits′ = omega (arith, length-take-le enough t (omega arith));
+      copied = record { bytes = λ i l. sym (getD-take enough t (0 + i) 0 l) };
     }))
 
 -- an accepted table is whole in its first 40,000 bytes
-same-rules : (t : List ℕ) → checkTable t ≡ got tt → SameRules (grammarOf (take 40000 t)) (grammarOf t)
-same-rules t e = rw (take-all 40000 t (omega (arith, table-most t e))) (itself (grammarOf t))
+same-rules : (t : List ℕ) → checkTable t ≡ got tt → SameRules (grammarOf (firstBytes t)) (grammarOf t)
+same-rules t e = rw (take-all enough t (omega (arith, table-most t e))) (itself (grammarOf t))
 
 -- the same is allowed for the first 40,000 bytes and for the whole
 module _ {t : List ℕ} {c p n : ℕ} {a : List ℕ} where
-  pub read-first : {w : List ℕ} {allowance : ℕ} {b : List ℕ} → Read (take 40000 t) w allowance b c p n a ↔ Read t w allowance b c p n a
+  pub read-first : {w : List ℕ} {allowance : ℕ} {b : List ℕ} → Read (firstBytes t) w allowance b c p n a ↔ Read t w allowance b c p n a
   read-first = (
-    read-carried (take 40000 t) t (check-first t) (λ e. same-rules t (sym (check-first t) ∙ e)),
-    read-carried t (take 40000 t) (sym (check-first t)) (λ e. turned (same-rules t e)),
+    read-carried (firstBytes t) t (check-first t) (λ e. same-rules t (sym (check-first t) ∙ e)),
+    read-carried t (firstBytes t) (sym (check-first t)) (λ e. turned (same-rules t e)),
   )
 
-  pub tree-first : {w chart : List ℕ} {count root : ℕ} {b : List ℕ} → TreeWritten (take 40000 t) w chart count root b c p n a ↔ TreeWritten t w chart count root b c p n a
+  pub tree-first : {w chart : List ℕ} {count root : ℕ} {b : List ℕ} → TreeWritten (firstBytes t) w chart count root b c p n a ↔ TreeWritten t w chart count root b c p n a
   tree-first = (
-    tree-carried (take 40000 t) t (check-first t) (λ e. same-rules t (sym (check-first t) ∙ e)),
-    tree-carried t (take 40000 t) (sym (check-first t)) (λ e. turned (same-rules t e)),
+    tree-carried (firstBytes t) t (check-first t) (λ e. same-rules t (sym (check-first t) ∙ e)),
+    tree-carried t (firstBytes t) (sym (check-first t)) (λ e. turned (same-rules t e)),
   )
 
-  pub sentence-first : {l b : List ℕ} → SentenceWritten (take 40000 t) l b c p n a ↔ SentenceWritten t l b c p n a
+  pub sentence-first : {l b : List ℕ} → SentenceWritten (firstBytes t) l b c p n a ↔ SentenceWritten t l b c p n a
   sentence-first = (
-    sentence-carried (take 40000 t) t (check-first t) (λ e. same-rules t (sym (check-first t) ∙ e)),
-    sentence-carried t (take 40000 t) (sym (check-first t)) (λ e. turned (same-rules t e)),
+    sentence-carried (firstBytes t) t (check-first t) (λ e. same-rules t (sym (check-first t) ∙ e)),
+    sentence-carried t (firstBytes t) (sym (check-first t)) (λ e. turned (same-rules t e)),
   )

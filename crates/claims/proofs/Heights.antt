@@ -1,24 +1,29 @@
 -- Deep is never given: where an item's least height is h there are items of every height from h down to 1, so h different true items, and
--- with more than 2,000 of them the chart is Over any room. The main statement: `never-deep`.
+-- with more than 2,000 of them the chart is Over any room. So of a whole chart, and of what the reader writes, all heights up to the
+-- greatest occur, and none passes the count. The main statements: `never-deep`, `chart-heights`, `read-heights`.
 use mathlib.Core.Path.{_≡_, refl, sym, ap, _∙_, subst}
-use mathlib.Core.List.{List, [], _∷_, List·Memᴰ as Mem}
-use Prim.Native.Nat.{ℕ, zero, suc, _≤_, _<_}
+use mathlib.Core.List.{List, [], _∷_, List·Memᴰ as Mem, List·Memᴰ·head as here, List·Memᴰ·tail as there}
+use Prim.Native.Nat.{ℕ, zero, suc, _*_, _-_, _≤_, _<_}
 use native.Mathlib.Omega.{arith}
 use native.Mathlib.Decide.{decLe}
-use lib.ListN.{length, length-map}
+use lib.ListN.{length, length-map, getD, replicate}
 use Rattle.meaning.specs.Decode.{grammarOf, wordsOf}
 use Rattle.meaning.specs.Order.{Each, each-none, each-more, Sorted, sorted-none, sorted-more}
 use Rattle.meaning.specs.Range.{Item}
 use Rattle.meaning.specs.Grammar.{Grammar}
 use Rattle.meaning.specs.Giving.{True}
 use Rattle.meaning.specs.Valid.{Valid}
-use Rattle.meaning.specs.Chart.{Known, Entry, tallest, Least, Made, item, things}
-use Rattle.meaning.specs.Reading.{room, Over, Verdict, yes-at, no-goal, Read, bad-input, full, deep, read}
+use Rattle.meaning.specs.Chart.{Known, Entry, tallest, Least, Made, ChartOf, item, things}
+use Rattle.meaning.specs.Reading.{room, laid, Over, Verdict, yes-at, no-goal, Read, bad-input, full, deep, read}
+use Rattle.meaning.specs.TreeWriting.{statedAt, blank}
 use Rattle.meaning.proofs.Order.{each-at, each-of, each-map, each-both, Nodup}
 use Rattle.meaning.proofs.Theory.{Deduction, bounded, map-mem}
 use Rattle.meaning.proofs.Charts.{deduction}
 use Rattle.meaning.proofs.Determined.{valid-input, room-most}
 use Rattle.meaning.proofs.Codes.{refusal-code}
+use Rattle.meaning.proofs.Growth as growth
+use Rattle.meaning.proofs.Passing.{getD-mem, known-is, shows}
+use Rattle.claims.specs.Across.{Climbs}
 
 -- one item of each height from n down to 1
 record Stairs {A : Type 0} (Made : A → ℕ → Type 0) (n : ℕ) (l : List (Known A)) : Type 0 where
@@ -108,9 +113,51 @@ verdict-below : {G : Grammar} {ws : List ℕ} {C : List (Entry Item)} {c p : ℕ
 verdict-below (yes-at e) = omega arith
 verdict-below (no-goal n) = omega arith
 
--- 'All heights up to the greatest occur, so none passes the count': the reader gives no 22
+-- the reader gives no 22
 pub never-deep : {t w : List ℕ} {allowance : ℕ} {b : List ℕ} {c p n : ℕ} {a : List ℕ} → Read t w allowance b c p n a → c ≡ 22 → ⊥
 never-deep (bad-input {r = r} e) h = omega (arith, refusal-code r .1)
 never-deep (full e o) h = omega arith
 never-deep {t} {w} {allowance} {b} (deep e o d) h = deep-over (grammarOf t) (wordsOf w) (room allowance b) (valid-input t w e) (d .height) (omega (arith, d .passes, room-most allowance b)) o
 never-deep (read e c l v) h = omega (arith, verdict-below v)
+
+-- where a member stands
+mem-place : {C : List (Entry Item)} {e : Entry Item} → Mem e C → (j : ℕ) × (j < length C) × (getD C j blank ≡ e)
+mem-place (here q) = (0, omega arith, sym q)
+mem-place (there m) = let (j, h, q) = mem-place m in (suc j, omega arith, q)
+
+abbrev heightAt : List (Entry Item) → ℕ → ℕ
+heightAt C i = getD C i blank .known .height
+
+-- 'All heights up to the greatest occur, so none passes the count': of a chart
+pub chart-heights : {G : Grammar} (ws : List ℕ) {C : List (Entry Item)} → Valid G → ChartOf G ws C → Climbs (length C) (heightAt C)
+chart-heights {G} ws {C} v c = record {
+  occur = occur;
+  count = λ i l. omega (arith, growth.chart-height (deduction G ws v) c (getD C i blank) (getD-mem blank C i l));
+}
+  where
+    occur : (i h : ℕ) → i < length C → 1 ≤ h → h ≤ heightAt C i → (j : ℕ) × (j < length C) × (heightAt C j ≡ h)
+    occur i zero l low high = absurd (omega arith)
+    occur i (suc k) l low high =
+        let (d, m, q) = growth.chart-heights (deduction G ws v) c (getD C i blank) (getD-mem blank C i l) k (omega arith) in
+        let (j, h, r) = mem-place m in
+        (j, h, ap (λ (e : Entry Item). e .known .height) r ∙ q)
+
+-- and of an answer of the reader
+no-records : {high : ℕ → ℕ} → Climbs 0 high
+no-records = record { occur = λ i h l. absurd (omega arith); count = λ i l. absurd (omega arith) }
+
+pub read-heights : {t w : List ℕ} {allowance : ℕ} {b : List ℕ} {c p n : ℕ} {a : List ℕ} → Read t w allowance b c p n a → Climbs n (λ i. statedAt a i .height)
+read-heights (bad-input e) = no-records
+read-heights (full e o) = no-records
+read-heights (deep e o d) = no-records
+read-heights {t} {w} {b = b} (read {C = C} e c l v) =
+    record {
+      occur = λ i h m low high. let (j, k, q) = climbs .occur i h m low (rw (← stated i m) high) in (j, k, stated j k ∙ q);
+      count = λ i m. rw (stated i m) (climbs .count i m);
+    }
+  where
+    climbs : Climbs (length C) (heightAt C)
+    climbs = chart-heights (wordsOf w) (valid-input t w e) c
+
+    stated : (i : ℕ) → i < length C → statedAt (laid C b) i .height ≡ heightAt C i
+    stated i m = ap (λ (k : Known Item). k .height) (known-is (shows C (replicate (length b - 12 * length C) 0) i m))

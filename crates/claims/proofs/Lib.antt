@@ -1,5 +1,5 @@
 -- The theorems across calls.
--- Deep is never given
+-- heights: Deep is never given, and all heights up to the greatest occur
 pub mod Heights
 -- two tables that are checked alike, and what is then allowed for both
 pub mod Alike

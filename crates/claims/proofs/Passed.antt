@@ -12,9 +12,9 @@ use Rattle.meaning.specs.Table.{got}
 use Rattle.meaning.specs.Decode.{grammarOf, wordsOf, checkInput}
 use Rattle.meaning.specs.Order.{Each}
 use Rattle.meaning.specs.Range.{Item}
-use Rattle.meaning.specs.Grammar.{Grammar, Tree, levels, functions}
+use Rattle.meaning.specs.Grammar.{Grammar, Tree, levels}
 use Rattle.meaning.specs.Giving.{Makes, True}
-use Rattle.meaning.specs.Chart.{Known, Entry, Way, Made, GivenBy, ChartOf, knowns}
+use Rattle.meaning.specs.Chart.{Entry, Way, Made, GivenBy, ChartOf, knowns}
 use Rattle.meaning.specs.Reading.{room, laid, Read, bad-input, full, deep, read}
 use Rattle.meaning.specs.TreeWriting.{statedAt, entryAt, lent, TooMany, Passes, blank, nodes, TreeWritten, too-many, bad-record, no-place, no-room, wrote}
 use Rattle.meaning.specs.TreeWriting as tree
@@ -24,13 +24,7 @@ use Rattle.meaning.proofs.Lending.{entry-at, entry-of}
 use Rattle.meaning.proofs.Writer.{written}
 use Rattle.meaning.proofs.Determined.{valid-input, room-most}
 use Rattle.meaning.proofs.Codes.{refusal-code}
-
--- a tree that makes a known item, of as many levels as its height, and its list
-pub record Grown (G : Grammar) (ws : List ℕ) (k : Known Item) (ns : List ℕ) : Type 0 where
-  pub tree : Tree
-  pub makes : Makes G ws tree (k .item)
-  pub high : levels tree ≡ k .height
-  pub list : functions tree ≡ ns
+use Rattle.claims.specs.Across.{Grown, Fewest}
 
 module _ {G : Grammar} {ws c : List ℕ} {count : ℕ} (sound : Passes G ws c count) where
   ways : Each (λ e. Way (GivenBy G ws) (knowns (lent G c count)) (e .known) (e .function) (e .places)) (lent G c count)
@@ -93,13 +87,6 @@ module _ (t w : List ℕ) (allowance : ℕ) (b : List ℕ) where
   reader-not-bad x (no-place e s l) z = omega arith
   reader-not-bad x (no-room e s l r) z = omega arith
   reader-not-bad x (wrote e s l q r) z = omega arith
-
--- a tree that makes an item, with the fewest levels of all that do, and its list
-pub record Fewest (G : Grammar) (ws : List ℕ) (x : Item) (ns : List ℕ) : Type 0 where
-  pub tree : Tree
-  pub makes : Makes G ws tree x
-  pub list : functions tree ≡ ns
-  pub fewest : (u : Tree) → Makes G ws u x → levels tree ≤ levels u
 
 -- a record of the reader's chart states its item's least height
 module _ (t w : List ℕ) (allowance : ℕ) (b : List ℕ) where

@@ -5,20 +5,19 @@ use mathlib.Core.Path.{_≡_, refl, sym, ap, _∙_, subst}
 use mathlib.Core.Logic.{_⊎_, inl, inr}
 use mathlib.Core.Option.{some}
 use mathlib.Core.List.{List, [], _∷_, _++_}
-use Prim.Native.Nat.{ℕ, zero, suc, _+_, _-_, _*_, _/_, _%_, _≤_, _<_}
+use Prim.Native.Nat.{ℕ, zero, suc, _+_, _-_, _*_, _/_, _≤_, _<_}
 use native.Mathlib.Omega.{arith}
 use lib.ListN.{length, getD, getElem?, take, drop, replicate, length-take}
 use lib.Seq.{take-at}
 use Rattle.meaning.specs.Table.{got, number, checkTable}
 use Rattle.meaning.specs.Decode.{grammarOf, wordsOf, checkInput}
 use Rattle.meaning.specs.Range.{Item}
-use Rattle.meaning.specs.Grammar.{Grammar, Tree}
 use Rattle.meaning.specs.Giving.{Makes}
 use Rattle.meaning.specs.Chart.{Entry, items}
 use Rattle.meaning.specs.Reading.{goal, yes-at, no-goal, Read, bad-input, full, deep, read}
 use Rattle.meaning.specs.TreeWriting.{statedAt, blank, TreeWritten, too-many, bad-record, no-place, no-room, wrote}
 use Rattle.meaning.specs.TreeWriting as tree
-use Rattle.meaning.specs.SentenceWriting.{Reads, words, SentenceWritten}
+use Rattle.meaning.specs.SentenceWriting.{words, SentenceWritten}
 use Rattle.meaning.specs.SentenceWriting as sentence
 use Rattle.meaning.proofs.Decoded.{several-length}
 use Rattle.meaning.proofs.Passing.{known-is, shows}
@@ -26,6 +25,7 @@ use Rattle.meaning.proofs.Charts.{spells-sentence}
 use Rattle.meaning.proofs.Determined.{Same, same-sentence, table-accepted, valid-input, never}
 use Rattle.meaning.proofs.Yes.{Spelt, spelt-yes}
 use Rattle.meaning.proofs.Codes.{refusal-code}
+use Rattle.claims.specs.Across.{Spells, LentAs}
 use Rattle.claims.proofs.Heights.{never-deep}
 use Rattle.claims.proofs.Passed.{reader-passes, written-tree}
 use Rattle.claims.proofs.Spoken.{spoken-words, words-accepted, input-accepted}
@@ -34,12 +34,6 @@ item-there : (C : List (Entry Item)) (p : ℕ) {x : Item} → getElem? (items C)
 item-there [] p q = let z : _≡_ {A = ℕ} 0 1 = cc in absurd (omega arith)
 item-there (e ∷ C) zero q = (omega arith, cc)
 item-there (e ∷ C) (suc p) q = let (h, r) = item-there C p q in (omega arith, r)
-
--- the list is that of a tree of the start category that says these words
-pub record Spells (G : Grammar) (ws ns : List ℕ) : Type 0 where
-  pub tree : Tree
-  pub reads : Reads G ns tree
-  pub says : words tree ≡ ws
 
 module _ (t w : List ℕ) (allowance : ℕ) (b : List ℕ) where
   -- a yes has its input accepted, and the goal stands at its place
@@ -100,12 +94,12 @@ answered e s (deep f o d) n = absurd (n refl)
 answered {t} {w} e s (read f c l v) n = inl (spelt-yes c (valid-input t w e) v s)
 
 pub accepted-read : {t l text : List ℕ} {d q m : ℕ} {after w : List ℕ} {allowance : ℕ} {b : List ℕ} {c p n : ℕ} {a : List ℕ}
-    → SentenceWritten t l text d q m after → d ≡ 0 → m ≤ 64 → length w % 2 ≡ 0 → wordsOf w ≡ take m after → Read t w allowance b c p n a
+    → SentenceWritten t l text d q m after → d ≡ 0 → LentAs after m w → Read t w allowance b c p n a
     → (c ≡ 0) ⊎ (c ≡ 16)
 unfolding wordsOf
-accepted-read {t} {l} {text} {m = m} {after = after} {w = w} s z few even same x =
+accepted-read {t} {l} {text} {m = m} {after = after} {w = w} s z lent x =
     let (e, g) = accepted-tree t l text s z in
-    let ws : words (g .tree) ≡ wordsOf w = g .says ∙ sym same in
-    let h : length w / 2 ≤ 64 = omega (arith, several-length (number w) (λ p. p + 2) (length w / 2) 0, ap length same, length-take m after) in
-    let f = input-accepted t w e (words-accepted w h even (rw ws at (spoken-words t e (g .tree) (g .reads .kind) 0))) in
+    let ws : words (g .tree) ≡ wordsOf w = g .says ∙ sym (lent .same) in
+    let h : length w / 2 ≤ 64 = omega (arith, several-length (number w) (λ p. p + 2) (length w / 2) 0, ap length (lent .same), length-take m after) in
+    let f = input-accepted t w e (words-accepted w h (lent .even) (rw ws at (spoken-words t e (g .tree) (g .reads .kind) 0))) in
     answered f (record { tree = g .tree; kind = g .reads .kind; says = ws }) x (never-deep x)

@@ -53,7 +53,8 @@ accepted-parts t e =
     let r = both (rules t (number t 7) (d .0)) _ tt (s .1) in
     let u = both (times (number t 7) (rule t) (d .0, [])) _ (r .0) (r .1) in
     let q : times (number t 7) (rule t) (firstRule t, []) ≡ got (u .0) = rw (← f) (u .1) in
-    let last : u .0 .0 ≡ past (number t 7) (ruleEnd t) (firstRule t) = times-past (λ s. s .0) (ruleEnd t) (λ _. Unit {0}) (rule t) (λ s s′ r. (rule-end t s s′ r .0, tt)) (number t 7) (firstRule t, []) (u .0) q .0 in
+    let last : u .0 .0 ≡ past (number t 7) (ruleEnd t) (firstRule t) =
+    times-past (λ s. s .0) (ruleEnd t) (λ _. Unit {0}) (rule t) (λ s s′ r. (rule-end t s s′ r .0, tt)) (number t 7) (firstRule t, []) (u .0) q .0 in
     record {
       head = h .1 ∙ ap got (n .0);
       dims = ap (times (byte t 5) (dimension t)) (sym (n .0)) ∙ d .1 ∙ ap got f;
@@ -111,7 +112,9 @@ module _ (t : List ℕ) (e : checkTable t ≡ got tt) where
 flatten-bytes : (t : List ℕ) (n at : ℕ) → flatten (several n (bytesAt t) (ruleEnd t) at) ≡ slice at (past n (ruleEnd t) at) t
 unfolding several past flatten
 flatten-bytes t zero at = sym (slice-empty at t)
-flatten-bytes t (suc n) at = rw (flatten-bytes t n (ruleEnd t at)) (slice-join at (ruleEnd t at) (past n (ruleEnd t) (ruleEnd t at)) t (rule-grows′ t at) (past-grows n (ruleEnd t) (rule-grows′ t) (ruleEnd t at)))
+flatten-bytes t (suc n) at =
+    let grows = past-grows n (ruleEnd t) (rule-grows′ t) (ruleEnd t at) in
+    rw (flatten-bytes t n (ruleEnd t at)) (slice-join at (ruleEnd t at) (past n (ruleEnd t) (ruleEnd t at)) t (rule-grows′ t at) grows)
 
 pub order-itself : (t : List ℕ) → checkTable t ≡ got tt → Reordered t t
 unfolding ruleBytes

@@ -11,7 +11,8 @@ use lib.Dec.{ltb, eqb}
 use borrow.Author.Tests.{ltb-false, le-ltb, eqb-false}
 use Rattle.meaning.specs.declared.Refusal.{Refusal}
 use Rattle.meaning.specs.declared.Refusal.the-variants.{Range, Category, Function, Symbol, Twice, Missing}
-use Rattle.meaning.specs.Table.{got, _>>=_, _>>_, refuse-if, times, any, member, outside, byte, number, byteField, numberField, symbolField, limited, dimension, category, rank, Used, unused, word, part, symbol, row, missing, rankOf, categoryOf, daughterOf, dimensionOf, ruleHead, ruleBody, rule, limits, header}
+use Rattle.meaning.specs.Table.{got, _>>=_, _>>_, refuse-if, times, any, member, outside, byte, number, byteField, numberField, symbolField, limited, dimension, category, rank}
+use Rattle.meaning.specs.Table.{Used, unused, word, part, symbol, row, missing, rankOf, categoryOf, daughterOf, dimensionOf, ruleHead, ruleBody, rule, limits, header}
 use Rattle.meaning.specs.Decode.{past, rowEnd, rowsOf}
 use Rattle.meaning.proofs.Fields.{limited-there, headed}
 use Rattle.meaning.proofs.Ends.{head-more, symbol-end, row-end, category-end, In, times-past}

@@ -20,6 +20,10 @@ use Rattle.phrase.specs.declared.items.Item.{Item as CodedItem}
 use Rattle.phrase.specs.declared.items.Daughters.{Daughters}
 use Rattle.phrase.specs.Phrase.{itemOf, itemsOf, RuleOf, rowOf, rowThere, RowIs, Has, GivesAt}
 
+-- equal lists have equal numbers at each place
+pub kind-same : {l m : List ℕ} (k : ℕ) → l ≡ m → getD l k 0 ≡ getD m k 0
+kind-same k e = ap (λ (l : List ℕ). getD l k 0) e
+
 module _ (t : List ℕ) (rule : ℕ) (o : RuleOf t rule) where
   pub fine : FineRule t rule
   fine = subst (FineRule t) (sym (o .there)) (fine-table t (o .accepted) .rules (o .index) (o .below))
@@ -85,9 +89,6 @@ module _ (t : List ℕ) (rule : ℕ) (o : RuleOf t rule) where
 
     pub kinds-no : (n m : ℕ) → n ≡ min (d .count) 3 → m ≡ rankOf t rule → (n ≡ m → ⊥) → categories (itemsOf d) ≡ ruleAt t rule .daughters → ⊥
     kinds-no n m e f h g = h (e ∙ sym items-length ∙ ap length g ∙ wanted-length ∙ sym f)
-
-    pub kind-no : (k a b : ℕ) → a ≡ getD (categories (itemsOf d)) k 0 → b ≡ getD (ruleAt t rule .daughters) k 0 → (a ≡ b → ⊥) → categories (itemsOf d) ≡ ruleAt t rule .daughters → ⊥
-    kind-no k a b e f h g = h (e ∙ ap (λ (l : List ℕ). getD l k 0) g ∙ sym f)
 
     pub kinds-yes : (n m : ℕ) → n ≡ min (d .count) 3 → m ≡ rankOf t rule → n ≡ m
         → getD (categories (itemsOf d)) 0 0 ≡ getD (ruleAt t rule .daughters) 0 0

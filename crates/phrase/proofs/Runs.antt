@@ -123,7 +123,10 @@ module _ (ws : List ℕ) (e : ℕ → ℕ → Range) where
       λ from k. eval-step from a (word w) ss (put from i (goes from ha pos j (whence ha pos k)) t g) (join→joined j) ∙ f from (inl (past-ends j pos))
     where
       put : (from : ℕ) → p .from < length ws → after from (a .to) ≡ p .from → p .to ≡ suc (p .from) → getD ws (p .from) 0 ≡ w → site ws e from (a .to) (word w) ≡ just p
-      put from i q t g = rw q (just-given (ltb (p .from) (length ws) && eqb (getD ws (p .from) 0) w) _ (two (ltb (p .from) (length ws)) (eqb (getD ws (p .from) 0) w) (lt→ltb _ _ i) (rw g (eqb-refl w))) ∙ ap just (range-path refl (sym t)))
+      put from i q t g =
+          let there : T (ltb (p .from) (length ws) && eqb (getD ws (p .from) 0) w) =
+          two (ltb (p .from) (length ws)) (eqb (getD ws (p .from) 0) w) (lt→ltb _ _ i) (rw g (eqb-refl w)) in
+          rw q (just-given (ltb (p .from) (length ws) && eqb (getD ws (p .from) 0) w) _ there ∙ ap just (range-path refl (sym t)))
 
       whence : {from : ℕ} → Proper a → 0 < p .to → (0 < a .to) ⊎ (from ≡ r .from) → (0 < a .to) ⊎ (from ≡ p .from)
       whence q pos (inl k) = inl k

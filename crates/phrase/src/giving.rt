@@ -39,6 +39,17 @@ fn few(n: usize) -> usize
     3
 }
 
+// Whether daughter k is of the category that the rule wants.
+fn kind_fits(table: &[u8], rule: usize, d: Daughters, k: usize) -> bool
+    requires { ⌜ RuleOf (now table) rule ⌝ }
+    ensures { λ r. ⌜ Decides (getD (categories (itemsOf d)) k 0 ≡ getD (ruleAt (now (table .entry)) rule .daughters) k 0) r ⌝ }
+{
+    if kind_at(d, k) != wanted_at(table, rule, k) {
+        return false;
+    }
+    true
+}
+
 // Whether the daughters are of the categories that the rule wants.
 pub fn kinds(table: &[u8], rule: usize, d: Daughters) -> bool
     requires { ⌜ RuleOf (now table) rule ⌝ }
@@ -48,13 +59,13 @@ pub fn kinds(table: &[u8], rule: usize, d: Daughters) -> bool
     if few(d.count) != size(byte_at(table, fourth)) {
         return false;
     }
-    if kind_at(d, 0) != wanted_at(table, rule, 0) {
+    if !kind_fits(table, rule, d, 0) {
         return false;
     }
-    if kind_at(d, 1) != wanted_at(table, rule, 1) {
+    if !kind_fits(table, rule, d, 1) {
         return false;
     }
-    if kind_at(d, 2) != wanted_at(table, rule, 2) {
+    if !kind_fits(table, rule, d, 2) {
         return false;
     }
     true

@@ -3,8 +3,8 @@ ghost use mathlib.Core.Path.{_≡_};
 ghost use Prim.Native.Nat.{ℕ, _+_, _-_, _<_, _≤_};
 ghost use lib.ListN.{length, getD};
 ghost use Rattle.meaning.specs.Range as range;
-ghost use Rattle.meaning.specs.Table.{number};
-ghost use Rattle.meaning.specs.Decode.{rowEnd, rowAt, symbolAt};
+ghost use Rattle.meaning.specs.Table.{number, dimensionOf, categoryOf};
+ghost use Rattle.meaning.specs.Decode.{rowEnd, rowAt, rowsOf, symbolAt};
 ghost use Rattle.phrase.specs.Row as row;
 ghost use Rattle.phrase.specs.Phrase.{rangeOf, joinOf, startsOf, heldOf, symbolsOf, EndsIn, RuleOf, RowIs, Decides, Has, Next, StartsAt, startOf};
 use crate::items::Daughters;
@@ -31,19 +31,35 @@ struct Starts {
     end: usize,
 }
 
+// How many rows the rule has: as many as its category has constituents.
+fn row_count(table: &[u8], rule: usize) -> usize
+    requires { ⌜ RuleOf (now table) rule ⌝ }
+    ensures { λ r. ⌜ r ≡ dimensionOf (now (table .entry)) (categoryOf (now (table .entry)) rule) ⌝ }
+{
+    let third = rule + 2;
+    let entry = 8 + size(byte_at(table, third));
+    size(byte_at(table, entry))
+}
+
+// Where the rule's first row starts: after its daughters' categories.
+fn first_row(table: &[u8], rule: usize) -> usize
+    requires { ⌜ RuleOf (now table) rule ⌝ }
+    ensures { λ r. ⌜ r ≡ rowsOf (now (table .entry)) rule ⌝ }
+{
+    let fourth = rule + 3;
+    let fifth = rule + 4;
+    fifth + size(byte_at(table, fourth))
+}
+
 // Row i of the rule at a place, from 0.
 pub fn row_of(table: &[u8], rule: usize, i: usize) -> Row
     requires { ⌜ RuleOf (now table) rule ⌝ }
     ensures { λ r. ⌜ RowIs (now (table .entry)) rule i r ⌝ }
 {
-    let third = rule + 2;
-    let fourth = rule + 3;
-    let fifth = rule + 4;
-    let entry = 8 + size(byte_at(table, third));
-    if size(byte_at(table, entry)) <= i {
+    if row_count(table, rule) <= i {
         return Row::Past;
     }
-    let mut at = fifth + size(byte_at(table, fourth));
+    let mut at = first_row(table, rule);
     let mut left = i;
     while left > 0 {
         at = row_end(table, at);
@@ -231,17 +247,11 @@ fn later(a: usize, b: usize) -> usize
     a
 }
 
-// The first range that the row can have from a place on.
-pub fn row_next(table: &[u8], row: Row, words: &[u16], d: Daughters, from: usize) -> Join
-    requires { ⌜ EndsIn (now table) row ⌝ }
-    ensures { λ r. ⌜ Next startOf (Has (now (words .entry)) d (symbolsOf (now (table .entry)) row)) from (joinOf r) ⌝ }
+// The first range that the row whose bytes stand here can have from a start on.
+fn place_next(table: &[u8], place: usize, words: &[u16], d: Daughters, from: usize) -> Join
+    requires { ⌜ rowEnd (now table) place ≤ length (now table) ⌝ }
+    ensures { λ r. ⌜ Next startOf (Has (now (words .entry)) d (rowAt (now (table .entry)) place)) from (joinOf r) ⌝ }
 {
-    let Row::At(place) = row else {
-        if from == 0 {
-            return Join::Joined(Range { from: 0, to: 0 });
-        }
-        return Join::Apart;
-    };
     let s = row_starts(table, place, words, d);
     let end = s.end;
     let mut start = later(from, s.first);
@@ -257,4 +267,18 @@ pub fn row_next(table: &[u8], row: Row, words: &[u16], d: Daughters, from: usize
         }
     }
     Join::Apart
+}
+
+// The first range that the row can have from a start on.
+pub fn row_next(table: &[u8], row: Row, words: &[u16], d: Daughters, from: usize) -> Join
+    requires { ⌜ EndsIn (now table) row ⌝ }
+    ensures { λ r. ⌜ Next startOf (Has (now (words .entry)) d (symbolsOf (now (table .entry)) row)) from (joinOf r) ⌝ }
+{
+    let Row::At(place) = row else {
+        if from == 0 {
+            return Join::Joined(Range { from: 0, to: 0 });
+        }
+        return Join::Apart;
+    };
+    place_next(table, place, words, d, from)
 }

@@ -47,21 +47,17 @@ returns-5 c = fails (λ g. said-no (c .before .range-fits3 .ensures) (not-true _
 
 returns-6 : tie.Need-returns-6
 returns-6 c =
-    let b = c .before .before .before .before .before .before .before .before .before .before .before .before .before in
-    let byte-at = c .before .before .before .before .before .before .before .before .before .before .byte-at in
-    let if1 = c .before .before .before .before .before .before .before .before .if1 in
-    let kinds = c .before .before .before .before .before .before .before .kinds in
-    let if2 = c .before .before .before .before .before .before .if2 in
-    let range-fits = c .before .before .before .before .before .range-fits in
-    let if3 = c .before .before .before .before .if3 in
-    let range-fits2 = c .before .before .before .range-fits2 in
-    let if4 = c .before .before .if4 in
+    let two = c .before .before .before in
+    let one = two .before .before in
+    let kinds = one .before .before in
+    let b = kinds .before .before .before .before .before .before in
+    let byte-at = kinds .before .before .before .byte-at in
     holds (
     give (b .args .table .now) (b .args .rule) (b .pre) (b .args .d) (b .args .words .now) (b .args .x)
-    (if1 .left ∙ byte-at .ensures .0)
-    (said-yes (kinds .ensures) (not-false _ (if2 .left)))
-    (said-yes (range-fits .ensures) (not-false _ (if3 .left)))
-    (said-yes (range-fits2 .ensures) (not-false _ (if4 .left)))
+    (kinds .before .if1 .left ∙ byte-at .ensures .0)
+    (said-yes (kinds .kinds .ensures) (not-false _ (one .before .if2 .left)))
+    (said-yes (one .range-fits .ensures) (not-false _ (two .before .if3 .left)))
+    (said-yes (two .range-fits2 .ensures) (not-false _ (c .before .before .if4 .left)))
     (said-yes (c .before .range-fits3 .ensures) (not-false _ (c .if5 .left)))
     )
 

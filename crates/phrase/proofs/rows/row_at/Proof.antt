@@ -24,17 +24,17 @@ returns c =
 
 returns-2 : tie.Need-returns-2
 returns-2 c =
-    let a = c .before .before .before .before .before .before .before .before .args in
-    let row-from = c .before .before .before .before .before .row-from in
-    let p = c .before .before .before .p in
-    made-here (a .words .now) (a .d) (rowAt (a .table .now) (a .place)) (a .start) _ (knew joinOf (row-from .ensures) (p .given .1)) (c .if1 .taken)
+    let at-p = c .before .before .before in
+    let row-from = at-p .before .before .row-from in
+    let a = at-p .before .before .before .before .before .args in
+    made-here (a .words .now) (a .d) (rowAt (a .table .now) (a .place)) (a .start) _ (knew joinOf (row-from .ensures) (at-p .p .given .1)) (c .if1 .taken)
 
 returns-3 : tie.Need-returns-3
 returns-3 c =
-    let a = c .before .before .before .before .before .before .before .before .args in
-    let row-from = c .before .before .before .before .before .row-from in
-    let p = c .before .before .before .p in
-    made-there (a .words .now) (a .d) (rowAt (a .table .now) (a .place)) (a .start) _ (knew joinOf (row-from .ensures) (p .given .1)) (c .if1 .left)
+    let at-p = c .before .before .before in
+    let row-from = at-p .before .before .row-from in
+    let a = at-p .before .before .before .before .before .args in
+    made-there (a .words .now) (a .d) (rowAt (a .table .now) (a .place)) (a .start) _ (knew joinOf (row-from .ensures) (at-p .p .given .1)) (c .if1 .left)
 
 pub row-at-spec : {M : Type 1} → statement M
 row-at-spec =

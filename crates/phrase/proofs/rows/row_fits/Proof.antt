@@ -31,21 +31,21 @@ enum-told-2 c = search needs
 
 returns-2 : tie.Need-returns-2
 returns-2 c =
-    let a = c .before .before .before .before .before .before .before .before .args in
-    let row = c .before .before .before .before .row in
     let row-from = c .before .before .row-from in
-    rw (row .given .1) (fails (not-made (a .words .now) (a .d) _ (rangeOf (a .r)) (knew joinOf (row-from .ensures) (c .enum-told2 .given .1))))
+    let at = c .before .before .before .before in
+    let a = at .before .before .before .before .args in
+    rw (at .row .given .1) (fails (not-made (a .words .now) (a .d) _ (rangeOf (a .r)) (knew joinOf (row-from .ensures) (c .enum-told2 .given .1))))
 
 same-requires-2 : tie.Need-same-requires-2
 same-requires-2 c κs = search needs
 
 returns-3 : tie.Need-returns-3
 returns-3 c =
-    let a = c .before .before .before .before .before .before .before .before .before .before .args in
-    let row = c .before .before .before .before .before .before .row in
-    let row-from = c .before .before .before .before .row-from in
     let p = c .before .before .p in
-    rw (row .given .1) (made-fits (a .words .now) (a .d) _ _ (rangeOf (a .r)) (knew joinOf (row-from .ensures) (p .given .1)) (c .same2 .ensures))
+    let row-from = c .before .before .before .before .row-from in
+    let at = c .before .before .before .before .before .before in
+    let a = at .before .before .before .before .args in
+    rw (at .row .given .1) (made-fits (a .words .now) (a .d) _ _ (rangeOf (a .r)) (knew joinOf (row-from .ensures) (p .given .1)) (c .same2 .ensures))
 
 pub row-fits-spec : {M : Type 1} → statement M
 row-fits-spec =

@@ -1,80 +1,43 @@
 -- `phrase::rows::row_of` meets its contract. The loop's invariant: the row is there, and its place is so many rows on from here.
-use mathlib.Core.Path.{_≡_, _∙_}
-use Prim.Native.Nat.{_<_}
+use mathlib.Core.Path.{_≡_, ap, sym, _∙_}
+use Prim.Native.Nat.{ℕ, _<_}
 use native.Mathlib.Omega.{arith}
 use borrow.Author.Needs.{needs}
 use Rattle.meaning.specs.Table.{dimensionOf, categoryOf}
 use Rattle.meaning.specs.Decode.{past, rowEnd, rowsOf}
-use Rattle.meaning.proofs.Places.{past-turn, past-none, past-next, rows-are, row-grows}
-use Rattle.phrase.proofs.RuleThere.{head-in, row-past, row-at-place, row-place-in}
+use Rattle.meaning.proofs.Places.{past-turn, past-none, past-next, row-grows}
+use Rattle.phrase.proofs.RuleThere.{row-past, row-at-place, row-place-in}
 use Rattle.phrase.proofs.rows.row_of.Statement.{statement}
 use Rattle.phrase.proofs.rows.row_of.Tie as tie
 
 abbrev Inv-loop : tie.InvT-loop
-Inv-loop table rule i third fourth fifth entry at₀ left₀ at left =
+Inv-loop table rule i at₀ left₀ at left =
     (i < dimensionOf table (categoryOf table rule)) × (past i (rowEnd table) (rowsOf table rule) ≡ past left (rowEnd table) at)
 
 abbrev μ-loop : tie.MeasureT-loop
-μ-loop table rule i third fourth fifth entry at₀ left₀ at left = left
+μ-loop table rule i at₀ left₀ at left = left
 
-add-third : tie.Need-add-third Inv-loop μ-loop
-add-third c = omega (arith, head-in (c .before .args .table .now) (c .before .args .rule) (c .before .pre))
-
-add-fourth : tie.Need-add-fourth Inv-loop μ-loop
-add-fourth c = omega (arith, head-in (c .before .args .table .now) (c .before .args .rule) (c .before .pre))
-
-add-fifth : tie.Need-add-fifth Inv-loop μ-loop
-add-fifth c = omega (arith, head-in (c .before .args .table .now) (c .before .args .rule) (c .before .pre))
-
-byte-at-requires : tie.Need-byte-at-requires Inv-loop μ-loop
-byte-at-requires c κs = search needs
-
-size-requires : tie.Need-size-requires Inv-loop μ-loop
-size-requires c κs = search needs
-
-add-entry : tie.Need-add-entry Inv-loop μ-loop
-add-entry c = omega arith
-
-byte-at-requires-2 : tie.Need-byte-at-requires-2 Inv-loop μ-loop
-byte-at-requires-2 c κs = search needs
-
-size-requires-2 : tie.Need-size-requires-2 Inv-loop μ-loop
-size-requires-2 c κs = search needs
+row-count-requires : tie.Need-row-count-requires Inv-loop μ-loop
+row-count-requires c κs = search needs
 
 returns : tie.Need-returns Inv-loop μ-loop
 returns c =
-    let b = c .before .before .before .before .before .before in
-    let byte-at = c .before .before .before .before .byte-at in
-    let size = c .before .before .before .size in
-    let byte-at2 = c .before .before .byte-at2 in
-    let h = simp (c .before .size2 .ensures, byte-at2 .ensures .0, size .ensures, byte-at .ensures .0) at (c .if1 .taken) in
-    row-past (b .args .table .now) (b .args .rule) (b .pre) _ h
+    let b = c .before .before .before in
+    row-past (b .args .table .now) (b .args .rule) (b .pre) _ (omega (arith, c .before .row-count .ensures))
 
-byte-at-requires-3 : tie.Need-byte-at-requires-3 Inv-loop μ-loop
-byte-at-requires-3 c κs = search needs
-
-size-requires-3 : tie.Need-size-requires-3 Inv-loop μ-loop
-size-requires-3 c κs = search needs
-
-add-at : tie.Need-add-at Inv-loop μ-loop
-add-at c =
-    let b = c .before .before .before .before .before .before .before .before in
-    omega (arith, head-in (b .args .table .now) (b .args .rule) (b .pre), c .size3 .ensures, c .before .byte-at3 .ensures .0)
+first-row-requires : tie.Need-first-row-requires Inv-loop μ-loop
+first-row-requires c κs = search needs
 
 loop-holds : tie.Need-loop-holds Inv-loop μ-loop
 loop-holds c =
-    let a = c .before .before .before .before .before .before .before .before .args in
-    let byte-at = c .before .before .before .before .before .before .byte-at in
-    let size = c .before .before .before .before .before .size in
-    let byte-at2 = c .before .before .before .before .byte-at2 in
-    let size2 = c .before .before .before .size2 in
-    let if1 = c .before .before .if1 in
-    let h = simp (size2 .ensures, byte-at2 .ensures .0, size .ensures, byte-at .ensures .0) at (if1 .left) in
-    (h, simp (c .size3 .ensures, c .before .byte-at3 .ensures .0, rows-are (a .table .now) (a .rule)))
+    let a = c .before .before .before .before .args in (
+      omega (arith, c .before .before .row-count .ensures),
+      ap (past (a .i) (rowEnd (a .table .now))) (sym (c .first-row .ensures)),
+    )
 
 row-end-requires : tie.Need-row-end-requires Inv-loop μ-loop
 row-end-requires c κs =
-    let b = c .before .before .before .before .before .before .before .before .before .before in
+    let b = c .before .before .before .before .before .before in
     let t = b .args .table .now in
     let l = c .before .loop in
     past-next _ (rowEnd t) (row-grows t) _ _ (c .loop-test .taken) (rw (l .inv .1) at (row-place-in t (b .args .rule) (b .pre) _ (l .inv .0)))
@@ -90,7 +53,7 @@ loop-again c = let l = c .before .before .loop in (l .inv .0, rw (c .row-end .en
 
 returns-2 : tie.Need-returns-2 Inv-loop μ-loop
 returns-2 c =
-    let b = c .before .before .before .before .before .before .before .before .before .before in
+    let b = c .before .before .before .before .before .before in
     let l = c .before .loop in
     row-at-place (b .args .table .now) (b .args .rule) (b .pre) _ (l .inv .0) (l .inv .1 ∙ past-none _ _ _ (omega arith))
 
@@ -100,18 +63,9 @@ row-of-spec =
     (tie.spec
     Inv-loop
     μ-loop
-    add-third
-    add-fourth
-    add-fifth
-    byte-at-requires
-    size-requires
-    add-entry
-    byte-at-requires-2
-    size-requires-2
+    row-count-requires
     returns
-    byte-at-requires-3
-    size-requires-3
-    add-at
+    first-row-requires
     loop-holds
     row-end-requires
     sub-left

@@ -24,12 +24,10 @@ word-requires c κs = search needs
 
 returns : tie.Need-returns
 returns c =
-    let a = c .before .before .before .before .before .before .before .args in
-    let byte-at = c .before .before .before .before .byte-at in
-    let if1 = c .before .before .before .if1 in
-    let number-at = c .before .before .number-at in
-    c .word .ensures ∙ simp (c .before .after .ensures, number-at .ensures)
-    (site-word (a .table .now) (a .words .now) (heldOf (a .d)) (a .start) (a .to) (a .at) (sym (byte-at .ensures .0) ∙ if1 .taken))
+    let test = c .before .before .before in
+    let a = test .before .before .before .before .args in
+    c .word .ensures ∙ simp (c .before .after .ensures, c .before .before .number-at .ensures)
+    (site-word (a .table .now) (a .words .now) (heldOf (a .d)) (a .start) (a .to) (a .at) (sym (test .before .byte-at .ensures .0) ∙ test .if1 .taken))
 
 part-at-requires : tie.Need-part-at-requires
 part-at-requires c κs = search needs

@@ -5,13 +5,18 @@ use mathlib.Core.Option.{Option, none as apart, some as just}
 use mathlib.Core.List.{List, [], _∷_}
 use native.Mathlib.Omega.{arith}
 use native.Mathlib.Numerals.{add-one}
-use lib.ListN.{length}
-use borrow.Author.Tests.{eq-eqb, ne-eqb}
+use lib.ListN.{length, getD}
+use borrow.Author.Tests.{lt-ltb, eq-eqb, ne-eqb}
 use Rattle.meaning.specs.Range.{Range, joined}
 use Rattle.meaning.specs.Grammar.{Symbol}
 use Rattle.meaning.specs.Table.{byte, number}
 use Rattle.meaning.specs.Decode.{several, symbolAt, rowAt}
+use Rattle.meaning.proofs.Joining.{range-path}
 use Rattle.phrase.specs.Row.{after, wordHere, partHere, site, andThen, eval, Starts, alone, ahead, opens, starts}
+
+-- a word that stands at p has the range of p
+pub word-stands : (ws : List ℕ) (w p : ℕ) {r : Range} → p < length ws → getD ws p 0 ≡ w → r .from ≡ p → r .to ≡ suc p → just r ≡ wordHere ws w p
+word-stands ws w p h e f g = simp (lt-ltb p (length ws) h, eq-eqb (getD ws p 0) w e) (ap just (range-path f g))
 
 -- a symbol of the table: a word, or the part that it names
 abbrev pub named : List ℕ → (ℕ → ℕ → Range) → ℕ → Range

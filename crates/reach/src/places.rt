@@ -6,9 +6,9 @@ ghost use lib.ListN.{length, getD};
 ghost use Rattle.phrase.specs.Phrase.{rangeOf, Decides};
 ghost use Rattle.reach.specs.Bits.{Bit, Single, Both, Minus, Next, Lent};
 ghost use Rattle.reach.specs.Reach.{Known, Turns, Occurs, Here, WordAt, After, OneWord, Exactly, Union, Upward, MayBe};
+use fields::size;
 use phrase::Range;
 use phrase::is_range;
-use fields::size;
 
 // Where a row may be: bit e - 1 for the end e; and whether it may have used no word yet.
 pub struct Places {

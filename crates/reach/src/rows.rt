@@ -9,11 +9,11 @@ use crate::places::Places;
 use crate::places::free_turn;
 use crate::places::part_turn;
 use crate::places::word_turn;
-use phrase::Daughters;
-use phrase::held;
 use fields::byte_at;
 use fields::number_at;
 use fields::size;
+use phrase::Daughters;
+use phrase::held;
 
 // The categories of three daughters of one part that may be any known ones; 0 for a daughter that is chosen.
 pub struct Free {

@@ -54,7 +54,8 @@ module _ {t ws order K : List ℕ} {code : ℕ} (C : Choosing t ws order K code)
   least = each-of (map knownOf K) (λ k m. let (c, i, q) = map-mem knownOf K m in let r = C .all .right c i in rw q (record { made = r .made; least = r .least }))
 
   -- each known item has a way
-  way : (f : ℕ) × (ds : List (Known Item)) × Each (λ d. Mem d (map knownOf K)) ds × GivenBy (grammarOf t) ws f (things ds) (knownOf code .item) × (knownOf code .height ≡ suc (tallest ds))
+  way : (f : ℕ) × (ds : List (Known Item)) × Each (λ d. Mem d (map knownOf K)) ds
+      × GivenBy (grammarOf t) ws f (things ds) (knownOf code .item) × (knownOf code .height ≡ suc (tallest ds))
   way = way-exists (deduction (grammarOf t) ws (valid-grammar t (C .accepted))) (map knownOf K) low least (knownOf code) (mem-map knownOf (C .there))
 
   rule-of : (f : ℕ) → f < length order → RuleOf t (getD order f 0)
@@ -91,7 +92,7 @@ module _ {t ws order K : List ℕ} {code : ℕ} (C : Choosing t ws order K code)
       let (i, l, e) = several-mem (ruleAt t) (ruleEnd t) (number t 7) (firstRule t) (y .known) in
       let (j, h, p) = C .ranked .each i (omega (arith, C .rules)) in
       let s : r ≡ ruleAt t (getD order j 0) = e ∙ ap (ruleAt t) (sym p) in
-      let y′ : Gives (grammarOf t) ws (ruleAt t (getD order j 0)) (things (w .daughters)) (knownOf code .item) = subst (λ (r : Rule). Gives (grammarOf t) ws r (things (w .daughters)) (knownOf code .item)) s y in
+      let y′ = subst (λ (r : Rule). Gives (grammarOf t) ws r (things (w .daughters)) (knownOf code .item)) s y in
       let n = full-size t ws (getD order j 0) (w .daughters) y′ in
       let m : length qs ≡ length (w .daughters) = sym (length-map qs (getElem? (map knownOf K))) ∙ ap length (w .found) ∙ length-map (w .daughters) some in
       (j, h, ap (λ (r : Rule). r .function) (sym s) ∙ q, m ∙ n, way-works t ws order K (coded code) j qs (w .daughters) (w .found) (m ∙ n) n (few j h) y′ (w .high))
@@ -134,7 +135,8 @@ module _ {t ws order K : List ℕ} {code : ℕ} (C : Choosing t ws order K code)
         go j l e n u (inr (y, z)) =
             let i = same-place j f l below (e ∙ y) in
             let m : length qs ≡ rank = n ∙ ap (λ (k : ℕ). rankOf t (getD order k 0)) i in
-            passed (getD qs 0 0) (getD qs 1 0) (getD qs 2 0) (subst (λ (k : ℕ). Works t ws order K (coded code) k (getD qs 0 0) (getD qs 1 0) (getD qs 2 0)) i u) (lex-three qs a b c (omega (arith, m, few f below)) (rw m z))
+            let u′ = subst (λ (k : ℕ). Works t ws order K (coded code) k (getD qs 0 0) (getD qs 1 0) (getD qs 2 0)) i u in
+            passed (getD qs 0 0) (getD qs 1 0) (getD qs 2 0) u′ (lex-three qs a b c (omega (arith, m, few f below)) (rw m z))
 
     chooses : (r : Choice) → r .function ≡ number t (getD order f 0) → r .one ≡ a % 65536 → r .two ≡ b % 65536 → r .three ≡ c % 65536 → Chooses t ws K code r
     chooses r e one two three =
@@ -173,7 +175,8 @@ module _ {t ws order K : List ℕ} {code : ℕ} (C : Choosing t ws order K code)
             at-f x = cc
         go (nowhere n) x = let z : _≡_ {A = ℕ} 0 1 = cc in absurd (omega arith)
 
-    pub picked : {w : Walked} → Finds t ws order K goal w → w ≡ At f a b c → (r : Choice) → r .function ≡ number t (getD order f 0) → r .one ≡ a % 65536 → r .two ≡ b % 65536 → r .three ≡ c % 65536 → Chooses t ws K code r
+    pub picked : {w : Walked} → Finds t ws order K goal w → w ≡ At f a b c → (r : Choice) → r .function ≡ number t (getD order f 0)
+        → r .one ≡ a % 65536 → r .two ≡ b % 65536 → r .three ≡ c % 65536 → Chooses t ws K code r
     picked F q r g one two three = go (found-at F q) refl
       where
         go : {w : Walked} → Finds t ws order K (coded code) w → w ≡ At f a b c → Chooses t ws K code r
@@ -182,5 +185,6 @@ module _ {t ws order K : List ℕ} {code : ℕ} (C : Choosing t ws order K code)
             let e₂ : a′ ≡ a = cc in
             let e₃ : b′ ≡ b = cc in
             let e₄ : c′ ≡ c = cc in
-            chooses l w p r (g ∙ ap (λ (i : ℕ). number t (getD order i 0)) (sym e₁)) (one ∙ ap (λ (i : ℕ). i % 65536) (sym e₂)) (two ∙ ap (λ (i : ℕ). i % 65536) (sym e₃)) (three ∙ ap (λ (i : ℕ). i % 65536) (sym e₄))
+            let same : ℕ → ℕ = λ i. i % 65536 in
+            chooses l w p r (g ∙ ap (λ (i : ℕ). number t (getD order i 0)) (sym e₁)) (one ∙ ap same (sym e₂)) (two ∙ ap same (sym e₃)) (three ∙ ap same (sym e₄))
         go (nowhere n) x = let z : _≡_ {A = ℕ} 0 1 = cc in absurd (omega arith)

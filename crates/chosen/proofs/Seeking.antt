@@ -2,7 +2,7 @@
 use mathlib.Core.Path.{_≡_, refl, sym, subst}
 use mathlib.Core.Logic.{inl, inr}
 use mathlib.Core.List.{List}
-use Prim.Native.Nat.{ℕ, _<_, _≤_}
+use Prim.Native.Nat.{ℕ, _+_, _<_, _≤_, _^_}
 use native.Mathlib.Omega.{arith}
 use lib.ListN.{length, getD}
 use borrow.Author.Tests.{lt-ltb, le-ltb}
@@ -14,13 +14,14 @@ use Rattle.phrase.specs.declared.items.Item.{Item as CodedItem}
 use Rattle.phrase.specs.declared.items.Daughters.{Daughters}
 use Rattle.phrase.specs.Phrase.{itemOf}
 use Rattle.hint.specs.Hint.{Open, Completes, Meets, Asks}
+use Rattle.hint.specs.declared.Wants.{Wants}
 use Rattle.search.specs.declared.spots.Spots.{Spots}
 use Rattle.search.specs.Spots.{Ordered}
 use Rattle.search.specs.Tried.{coded, put, SpotsFor}
 use Rattle.search.proofs.Choosing.{seat-meets, seat-category}
 use Rattle.chosen.specs.declared.looking.Look.{Look}
-use Rattle.chosen.specs.Walk.{seats, taken, Leads, Seeks, Looking, Anyhow}
-use Rattle.chosen.proofs.Leading.{taken-in, back}
+use Rattle.chosen.specs.Walk.{seats, taken, Leads, Seeks, Seated, Only, Looking, Onward}
+use Rattle.chosen.proofs.Leading.{taken-in, back, seated-more}
 
 pub seats-in : (d : Daughters) (k : ℕ) (K : List ℕ) → k < d .count → seats d k K ≡ length K
 seats-in d k K l = rw (lt-ltb k (d .count) l)
@@ -29,46 +30,71 @@ pub seats-out : (d : Daughters) (k : ℕ) (K : List ℕ) → d .count ≤ k → 
 seats-out d k K l = rw (le-ltb k (d .count) l)
 
 -- nothing is asked
-pub any-wants : Anyhow (record { low = 0; high = 2047; one = record { from = 65; to = 65 }; two = record { from = 65; to = 65 }; three = record { from = 65; to = 65 } })
-any-wants c = record { low = omega arith; high = omega arith; one = inr (inl refl, inl refl); two = inr (inl refl, inl refl); three = inr (inl refl, inl refl) }
+abbrev anything : Wants
+anything = record { low = 0; high = 2047; one = record { from = 65; to = 65 }; two = record { from = 65; to = 65 }; three = record { from = 65; to = 65 } }
+
+pub any-wants : (c : ℕ) → Meets anything (knownOf c)
+any-wants c = record {
+  low = omega arith;
+  high = omega arith;
+  one = inr (inl refl, inl refl);
+  two = inr (inl refl, inl refl);
+  three = inr (inl refl, inl refl);
+}
 
 -- the first n places
-abbrev pub firsts : ℕ → Spots
+abbrev firsts : ℕ → Spots
 firsts n = record { lo = 0; gap = n; resume = n; hi = n }
 
 first-ordered : (s : Spots) (n : ℕ) → s ≡ firsts n → Ordered s
 first-ordered s n e = subst Ordered (sym e) (record { one = omega arith; two = omega arith; three = omega arith })
 
-module _ {t ws : List ℕ} {rule : ℕ} {goal : CodedItem} {d : Daughters} {k : ℕ} {K : List ℕ} where
-  pub seek-one : (l : Look) → d .count ≤ k → 0 < length K → l .spots ≡ firsts 1 → Anyhow (l .wants) → Seeks t ws rule goal d k K l
-  seek-one l out some e any = record {
-    ordered = first-ordered (l .spots) 1 e;
-    end = rw e some;
-    seated = rw (e, seats-out d k K out) (omega arith);
-    has = λ p h w. let b : p < 1 = rw (seats-out d k K out) at h in rw e (inl (omega arith, b));
-    asks = λ p h w. any (getD K p 0);
+module _ {t ws : List ℕ} {rule : ℕ} {goal : CodedItem} {d : Daughters} {k : ℕ} {K : List ℕ} (S : Seated t rule d k) where
+  pub seek-one : (l : Look) → d .count ≤ k → 0 < length K → Only d k 1 l → Seeks t ws rule goal d k K l
+  seek-one l out some o = record {
+    chosen = o .chosen;
+    turn = o .turn;
+    seated = S;
+    ordered = first-ordered (l .spots) 1 (o .spots);
+    end = rw (o .spots) some;
+    within = rw (o .spots, seats-out d k K out) (omega arith);
+    has = λ p h w. let b : p < 1 = rw (seats-out d k K out) at h in rw (o .spots) (inl (omega arith, b));
+    asks = λ p h w. o .any (getD K p 0);
   }
 
-  pub seek-none : (l : Look) → d .count ≤ 3 → Open d k → (Leads t ws rule goal d → ⊥) → l .spots ≡ firsts 0 → Anyhow (l .wants) → Seeks t ws rule goal d k K l
-  seek-none l few o n e any = record {
-    ordered = first-ordered (l .spots) 0 e;
-    end = rw e (omega arith);
-    seated = rw e (omega arith);
-    has = λ p h w. absurd (n (back d k (getD K p 0) few o w));
-    asks = λ p h w. any (getD K p 0);
+  pub seek-none : (l : Look) → k < 3 → (Leads t ws rule goal d → ⊥) → Only d k 0 l → Seeks t ws rule goal d k K l
+  seek-none l three n o = record {
+    chosen = o .chosen;
+    turn = o .turn;
+    seated = S;
+    ordered = first-ordered (l .spots) 0 (o .spots);
+    end = rw (o .spots) (omega arith);
+    within = rw (o .spots) (omega arith);
+    has = λ p h w. absurd (n (back d k (getD K p 0) (S .partial .few) (S .free k (omega arith) three) w));
+    asks = λ p h w. o .any (getD K p 0);
   }
 
-  pub seek-there : (l : Look) → Looking K goal → k < d .count → d .count ≤ 3 → Open d k → Asks t ws rule d goal k (l .wants) → SpotsFor t rule k (l .wants) K (l .spots) → Seeks t ws rule goal d k K l
-  seek-there l L below few o A S = record {
-    ordered = S .ordered;
-    end = S .end;
-    seated = rw (seats-in d k K below) (S .end);
-    has = λ p h w. let b = within p h in S .has p b (seat-category d few k below o (getD K p 0) (kind p b) (whole p w) (w .does)) (met p b w);
-    asks = λ p h w. met p (within p h) w;
+  pub seek-there : (l : Look) → l .chosen ≡ d → l .turn ≡ k → Looking K goal → k < d .count → Asks t ws rule d goal k (l .wants)
+      → SpotsFor t rule k (l .wants) K (l .spots) → Seeks t ws rule goal d k K l
+  seek-there l chosen turn L below A P = record {
+    chosen = chosen;
+    turn = turn;
+    seated = S;
+    ordered = P .ordered;
+    end = P .end;
+    within = rw (seats-in d k K below) (P .end);
+    has = λ p h w. let b = inside p h in P .has p b (seat-category d few k below free (getD K p 0) (kind p b) (whole p w) (w .does)) (met p b w);
+    asks = λ p h w. met p (inside p h) w;
   }
     where
-      within : (p : ℕ) → p < seats d k K → p < length K
-      within p h = rw (seats-in d k K below) at h
+      few : d .count ≤ 3
+      few = S .partial .few
+
+      free : Open d k
+      free = S .free k (omega arith) (omega arith)
+
+      inside : (p : ℕ) → p < seats d k K → p < length K
+      inside p h = rw (seats-in d k K below) at h
 
       kind : (p : ℕ) → p < length K → 1 ≤ knownOf (getD K p 0) .item .category
       kind p b = L .codes (getD K p 0) (mem-at K p b) .0
@@ -77,9 +103,24 @@ module _ {t ws : List ℕ} {rule : ℕ} {goal : CodedItem} {d : Daughters} {k : 
       whole p w = subst (λ (e : Daughters). Completes e (w .full)) (taken-in d k (getD K p 0) below) (w .completes)
 
       met : (p : ℕ) → p < length K → Leads t ws rule goal (taken d k (getD K p 0)) → Meets (l .wants) (knownOf (getD K p 0))
-      met p b w = seat-meets d few k below o (getD K p 0) (kind p b) (whole p w) (w .does) (l .wants) A
+      met p b w = seat-meets d few k below free (getD K p 0) (kind p b) (whole p w) (w .does) (l .wants) A
 
 -- a rule of another category gives nothing
 pub other-kind : {t ws : List ℕ} {rule : ℕ} {goal : CodedItem} {d : Daughters} → (categoryOf t rule ≡ goal .category → ⊥) → Leads t ws rule goal d → ⊥
 unfolding ruleAt itemOf
 other-kind n w = n (sym (w .does .gives .kind))
+
+-- a place is taken
+module _ {t ws : List ℕ} {rule : ℕ} {goal : CodedItem} {K : List ℕ} {l : Look} {place : ℕ} (O : Onward t ws rule goal K l place) where
+  pub on-place : place < length K
+  on-place = omega (arith, O .below, O .seeks .end)
+
+  pub on-code : (1 ≤ knownOf (getD K place 0) .item .category) × (getD K place 0 < 2 ^ 60)
+  on-code = O .looking .codes (getD K place 0) (mem-at K place on-place)
+
+  pub on-seated : (next : ℕ) → next ≡ l .turn + 1 → l .turn < 3 → Seated t rule (taken (l .chosen) (l .turn) (getD K place 0)) next
+  on-seated next e h = seated-more t rule (l .chosen) (l .turn) (getD K place 0) next e h (on-code .0) (O .seeks .seated)
+
+  -- where it is not as asked, nothing leads from it to the goal
+  pub on-none : (Meets (l .wants) (knownOf (getD K place 0)) → ⊥) → Leads t ws rule goal (taken (l .chosen) (l .turn) (getD K place 0)) → ⊥
+  on-none n w = n (O .seeks .asks place (omega (arith, O .below, O .seeks .within)) w)

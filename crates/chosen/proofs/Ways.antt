@@ -24,11 +24,13 @@ use Rattle.search.specs.Tried.{coded}
 use Rattle.search.proofs.Choosing.{coded-known, coded-full, further}
 use Rattle.search.proofs.Ruling.{open-none}
 use Rattle.chosen.specs.Walk.{seats, taken, Works, Looking, zeroth, first, second, third}
-use Rattle.chosen.proofs.Leading.{taken-in, taken-out, taken-count, taken-other, taken-same, open-later}
+use Rattle.chosen.proofs.Leading.{taken-in, taken-out, taken-other, taken-same}
+use Rattle.chosen.proofs.Seats as seats
 use Rattle.chosen.proofs.Seeking.{seats-in, seats-out}
 
 -- daughters that are found at places
-found-at : {A : Type 0} (z : A) (L : List A) (ps : List ℕ) (ds : List A) → map (getElem? L) ps ≡ map some ds → (k : ℕ) → k < length ps → (getD ps k 0 < length L) × (getD ds k z ≡ getD L (getD ps k 0) z)
+found-at : {A : Type 0} (z : A) (L : List A) (ps : List ℕ) (ds : List A) → map (getElem? L) ps ≡ map some ds → (k : ℕ) → k < length ps
+    → (getD ps k 0 < length L) × (getD ds k z ≡ getD L (getD ps k 0) z)
 found-at z L [] ds e k l = absurd (omega arith)
 found-at z L (p ∷ ps) [] e k l = let w : _≡_ {A = ℕ} 0 1 = cc in absurd (omega arith)
 found-at z L (p ∷ ps) (d ∷ ds) e zero l = here L p (cc)
@@ -120,19 +122,13 @@ module _ (t ws order K : List ℕ) (goal : CodedItem) (f : ℕ) where
   rank = rankOf t (getD order f 0)
 
   count₁ : (a : ℕ) → first t ws order K goal f a .count ≡ rank
-  count₁ a = taken-count (zeroth t ws order K goal f) 0 (getD K a 0)
+  count₁ = seats.count₁ t ws order K goal f
 
   count₂ : (a b : ℕ) → second t ws order K goal f a b .count ≡ rank
-  count₂ a b = taken-count (first t ws order K goal f a) 1 (getD K b 0) ∙ count₁ a
+  count₂ = seats.count₂ t ws order K goal f
 
   count₃ : (a b c : ℕ) → third t ws order K goal f a b c .count ≡ rank
-  count₃ a b c = taken-count (second t ws order K goal f a b) 2 (getD K c 0) ∙ count₂ a b
-
-  open₁ : (a j : ℕ) → j < 3 → (j ≡ 0 → ⊥) → Open (first t ws order K goal f a) j
-  open₁ a j l n = open-later (zeroth t ws order K goal f) 0 j (getD K a 0) (omega arith) l n (open-none rank j)
-
-  open₂ : (a b : ℕ) → Open (second t ws order K goal f a b) 2
-  open₂ a b = open-later (first t ws order K goal f a) 1 2 (getD K b 0) (omega arith) (omega arith) (λ e. omega arith) (open₁ a 2 (omega arith) (λ e. omega arith))
+  count₃ = seats.count₃ t ws order K goal f
 
   pub way-works : (ps : List ℕ) (ds : List (Known Item)) → map (getElem? (map knownOf K)) ps ≡ map some ds → length ps ≡ rank → length ds ≡ rank → rank ≤ 3
       → Gives (grammarOf t) ws (ruleAt t (getD order f 0)) (things ds) (itemOf goal) → goal .height ≡ suc (tallest ds) → Works t ws order K goal f (getD ps 0 0) (getD ps 1 0) (getD ps 2 0)
@@ -162,10 +158,14 @@ module _ (t ws order K : List ℕ) (goal : CodedItem) (f : ℕ) where
       one-more = take-on (zeroth t ws order K goal f) 0 (getD K a 0) few (open-none rank 0) (daughter-at K ps ds q (zeroth t ws order K goal f) 0 many) none-yet
 
       two-more : Completes (second t ws order K goal f a b) ds
-      two-more = take-on (first t ws order K goal f a) 1 (getD K b 0) (omega (arith, few, count₁ a)) (open₁ a 1 (omega arith) (λ e. omega arith)) (daughter-at K ps ds q (first t ws order K goal f a) 1 n₁) one-more
+      two-more =
+          take-on (first t ws order K goal f a) 1 (getD K b 0) (omega (arith, few, count₁ a))
+          (seats.open₁ t ws order K goal f a 1 (omega arith) (λ e. omega arith)) (daughter-at K ps ds q (first t ws order K goal f a) 1 n₁) one-more
 
       whole : Completes (third t ws order K goal f a b (getD ps 2 0)) ds
-      whole = take-on (second t ws order K goal f a b) 2 (getD K (getD ps 2 0) 0) (omega (arith, few, count₂ a b)) (open₂ a b) (daughter-at K ps ds q (second t ws order K goal f a b) 2 n₂) two-more
+      whole =
+          take-on (second t ws order K goal f a b) 2 (getD K (getD ps 2 0) 0) (omega (arith, few, count₂ a b))
+          (seats.open₂ t ws order K goal f a b) (daughter-at K ps ds q (second t ws order K goal f a b) 2 n₂) two-more
 
   -- and a combination that works is a way
   module _ (L : Looking K goal) (few : rank ≤ 3) {a b c : ℕ} (w : Works t ws order K goal f a b c) where
@@ -184,9 +184,11 @@ module _ (t ws order K : List ℕ) (goal : CodedItem) (f : ℕ) where
     seat₂ l = taken-same (second t ws order K goal f a b) 2 (getD K c 0) (omega (arith, l, count₂ a b))
 
     -- the daughter that is seated at a place is the known item there
-    seated-is : (k p : ℕ) → k < rank → p < length K → seat (third t ws order K goal f a b c) k ≡ coded (getD K p 0) → getD (w .leads .full) k unknown ≡ getD (map knownOf K) p unknown
+    seated-is : (k p : ℕ) → k < rank → p < length K → seat (third t ws order K goal f a b c) k ≡ coded (getD K p 0)
+        → getD (w .leads .full) k unknown ≡ getD (map knownOf K) p unknown
     seated-is k p l h e =
-        w .leads .completes .keeps k (omega (arith, l, count₃ a b c)) (λ z. coded-full (getD K p 0) (L .codes (getD K p 0) (mem-at K p h) .0) (ap (λ (x : CodedItem). x .category) (sym e) ∙ z))
+        w .leads .completes .keeps k (omega (arith, l, count₃ a b c))
+        (λ z. coded-full (getD K p 0) (L .codes (getD K p 0) (mem-at K p h) .0) (ap (λ (x : CodedItem). x .category) (sym e) ∙ z))
         ∙ ap heldAs e ∙ coded-known (getD K p 0) ∙ sym (known-at K p h)
 
     abbrev places : List ℕ
@@ -218,7 +220,10 @@ module _ (t ws order K : List ℕ) (goal : CodedItem) (f : ℕ) where
     unfolding GivenBy ruleAt
     works-way = record {
       daughters = w .leads .full;
-      found = found-by unknown (map knownOf K) places (w .leads .full) (w .leads .completes .size ∙ count₃ a b c ∙ sym (three-many rank a b c few)) (λ k l. daughters-at k (omega (arith, l, three-many rank a b c few)));
+      found =
+          let many = three-many rank a b c few in
+          found-by unknown (map knownOf K) places (w .leads .full) (w .leads .completes .size ∙ count₃ a b c ∙ sym many)
+          (λ k l. daughters-at k (omega (arith, l, many)));
       given = (ruleAt t (getD order f 0), refl, w .leads .does .gives);
       high = w .leads .does .high;
     }

@@ -14,7 +14,6 @@ use Rattle.phrase.specs.declared.items.Item.{Item as CodedItem}
 use Rattle.phrase.specs.declared.items.Daughters.{Daughters}
 use Rattle.phrase.specs.Phrase.{itemOf, RuleOf}
 use Rattle.hint.specs.Hint.{Open, Partial, Completes, Does, Meets}
-use Rattle.hint.specs.declared.Wants.{Wants}
 use Rattle.search.specs.Spots.{Ordered, Inside}
 use Rattle.search.specs.Tried.{coded, put, noneOf}
 use Rattle.chosen.specs.declared.looking.Look.{Look}
@@ -35,24 +34,30 @@ pub record Leads (t ws : List ℕ) (rule : ℕ) (goal : CodedItem) (d : Daughter
   pub completes : Completes d full
   pub does : Does t ws rule goal full (itemOf goal)
 
--- no place that leads to the goal is left out, and each that does is as asked
-pub record Seeks (t ws : List ℕ) (rule : ℕ) (goal : CodedItem) (d : Daughters) (k : ℕ) (K : List ℕ) (l : Look) : Type 0 where
-  pub ordered : Ordered (l .spots)
-  pub end : l .spots .hi ≤ length K
-  pub seated : l .spots .hi ≤ seats d k K
-  pub has : (p : ℕ) → p < seats d k K → Leads t ws rule goal (taken d k (getD K p 0)) → Inside (l .spots) p
-  pub asks : (p : ℕ) → p < seats d k K → Leads t ws rule goal (taken d k (getD K p 0)) → Meets (l .wants) (knownOf (getD K p 0))
-
--- every known item is as asked
-abbrev pub Anyhow : Wants → Type 0
-Anyhow w = (c : ℕ) → Meets w (knownOf c)
-
 -- the first k daughters of the rule are chosen, and no other
 pub record Seated (t : List ℕ) (rule : ℕ) (d : Daughters) (k : ℕ) : Type 0 where
   pub partial : Partial d
   pub count : d .count ≡ rankOf t rule
   pub chosen : (j : ℕ) → j < k → j < d .count → Open d j → ⊥
   pub free : (j : ℕ) → k ≤ j → j < 3 → Open d j
+
+-- daughter k is looked for: no place that leads to the goal is left out, and each that does is as asked
+pub record Seeks (t ws : List ℕ) (rule : ℕ) (goal : CodedItem) (d : Daughters) (k : ℕ) (K : List ℕ) (l : Look) : Type 0 where
+  pub chosen : l .chosen ≡ d
+  pub turn : l .turn ≡ k
+  pub seated : Seated t rule d k
+  pub ordered : Ordered (l .spots)
+  pub end : l .spots .hi ≤ length K
+  pub within : l .spots .hi ≤ seats d k K
+  pub has : (p : ℕ) → p < seats d k K → Leads t ws rule goal (taken d k (getD K p 0)) → Inside (l .spots) p
+  pub asks : (p : ℕ) → p < seats d k K → Leads t ws rule goal (taken d k (getD K p 0)) → Meets (l .wants) (knownOf (getD K p 0))
+
+-- the first n places are walked, with nothing asked
+pub record Only (d : Daughters) (k n : ℕ) (l : Look) : Type 0 where
+  pub chosen : l .chosen ≡ d
+  pub turn : l .turn ≡ k
+  pub spots : l .spots ≡ record { lo = 0; gap = n; resume = n; hi = n }
+  pub any : (c : ℕ) → Meets (l .wants) (knownOf c)
 
 -- what is known while daughters of a goal are looked for
 pub record Looking (K : List ℕ) (goal : CodedItem) : Type 0 where
@@ -62,6 +67,13 @@ pub record Looking (K : List ℕ) (goal : CodedItem) : Type 0 where
   pub codes : (c : ℕ) → Mem c K → (1 ≤ knownOf c .item .category) × (c < 2 ^ 60)
   pub high : 1 ≤ goal .height
   pub named : goal .category ≡ 0 → ⊥
+
+-- what is known where a place is taken of those where a daughter is looked for
+pub record Onward (t ws : List ℕ) (rule : ℕ) (goal : CodedItem) (K : List ℕ) (l : Look) (place : ℕ) : Type 0 where
+  pub there : RuleOf t rule
+  pub looking : Looking K goal
+  pub seeks : Seeks t ws rule goal (l .chosen) (l .turn) K l
+  pub below : place < l .spots .hi
 
 module _ (t ws order K : List ℕ) (goal : CodedItem) where
   abbrev pub ruleOf : ℕ → ℕ

@@ -3,7 +3,7 @@ mod looking;
 mod walk;
 
 ghost use mathlib.Core.Path.{_≡_};
-ghost use Prim.Native.Nat.{ℕ, _%_};
+ghost use Prim.Native.Nat.{_%_};
 ghost use Rattle.chosen.specs.Chosen.{Choosing, Chooses};
 use fields::number_at;
 use fields::size;

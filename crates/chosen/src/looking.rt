@@ -1,14 +1,12 @@
-// Where the daughters of an item are looked for, and whether a rule gives the item from daughters that are all chosen.
+// Where the daughters of an item are looked for, one after another, and whether a rule gives the item from daughters that are all chosen.
 ghost use mathlib.Core.Path.{_≡_};
-ghost use Prim.Native.Nat.{ℕ, _≤_, _<_, _^_};
-ghost use lib.ListN.{length};
+ghost use Prim.Native.Nat.{_+_, _<_, _^_};
+ghost use lib.ListN.{getD};
 ghost use Rattle.meaning.specs.Table.{rankOf};
-ghost use Rattle.store.specs.Code as packing;
 ghost use Rattle.phrase.specs.Phrase.{RuleOf, Decides};
-ghost use Rattle.hint.specs.Hint.{Meets};
 ghost use Rattle.search.specs.Tried.{noneOf};
 ghost use Rattle.chosen.specs.Walk as spec;
-ghost use Rattle.chosen.specs.Walk.{Leads, Seeks, Seated, Looking, Anyhow};
+ghost use Rattle.chosen.specs.Walk.{Leads, Seeks, Seated, Looking, Onward, Only};
 use fields::byte_at;
 use fields::size;
 use hint::Want;
@@ -19,34 +17,23 @@ use phrase::Daughters;
 use phrase::Item;
 use phrase::fits;
 use search::Spots;
+use search::none_of;
 use search::spots_for;
 use search::top;
 use search::unpack;
 use search::with;
 
-// The places where a daughter is looked for, and what is asked of it.
+// The daughters that are chosen, which daughter is looked for next, from 0, the places where, and what is asked of it.
 pub struct Look {
+    pub chosen: Daughters,
+    pub turn: usize,
     pub spots: Spots,
     pub wants: Wants,
 }
 
-// Nothing is asked.
-fn no_wants() -> Wants
-    ensures { λ w. ⌜ Anyhow w ⌝ }
-{
-    let any = Want { from: 65, to: 65 };
-    Wants {
-        low: 0,
-        high: 2047,
-        one: any,
-        two: any,
-        three: any,
-    }
-}
-
 // The first so many places, with nothing asked.
-fn only(end: usize) -> Look
-    ensures { λ l. ⌜ (l .spots ≡ record { lo = 0; gap = end; resume = end; hi = end }) × Anyhow (l .wants) ⌝ }
+fn only(d: Daughters, k: usize, end: usize) -> Look
+    ensures { λ l. ⌜ Only d k end l ⌝ }
 {
     let all = Spots {
         lo: 0,
@@ -54,14 +41,24 @@ fn only(end: usize) -> Look
         resume: end,
         hi: end,
     };
+    let any = Want { from: 65, to: 65 };
+    let wants = Wants {
+        low: 0,
+        high: 2047,
+        one: any,
+        two: any,
+        three: any,
+    };
     Look {
+        chosen: d,
+        turn: k,
         spots: all,
-        wants: no_wants(),
+        wants: wants,
     }
 }
 
 // The daughters with a known item as daughter k, where the rule has such a daughter.
-pub(crate) fn taken(d: Daughters, k: usize, code: u64) -> Daughters
+fn taken(d: Daughters, k: usize, code: u64) -> Daughters
     requires { ⌜ code < 2 ^ 60 ⌝ }
     ensures { λ r. ⌜ r ≡ spec.taken d k code ⌝ }
 {
@@ -72,83 +69,91 @@ pub(crate) fn taken(d: Daughters, k: usize, code: u64) -> Daughters
 }
 
 // Where daughter k is looked for: place 0 alone where the rule has no such daughter.
-pub(crate) fn look_for(
+fn look_for(
     table: &[u8],
     words: &[u16],
+    known: &[u64],
     rule: usize,
     goal: Item,
     d: Daughters,
     k: usize,
-    known: &[u64],
 ) -> Look
     requires { ⌜ RuleOf (now table) rule × Looking (now known) goal × Seated (now table) rule d k × (k < 3) ⌝ }
     ensures { λ l. ⌜ Seeks (now (table .entry)) (now (words .entry)) rule goal d k (now (known .entry)) l ⌝ }
 {
     if d.count <= k {
-        return only(1);
+        return only(d, k, 1);
     }
     let w = wants_of(table, rule, words, d, goal, k);
     let s = spots_for(table, rule, k, w, known);
-    Look { spots: s, wants: w }
+    Look {
+        chosen: d,
+        turn: k,
+        spots: s,
+        wants: w,
+    }
+}
+
+// The daughters of the rule, none of them chosen.
+fn none_yet(table: &[u8], rule: usize) -> Daughters
+    requires { ⌜ RuleOf (now table) rule ⌝ }
+    ensures { λ d. ⌜ d ≡ noneOf (rankOf (now (table .entry)) rule) ⌝ }
+{
+    let fourth = rule + 3;
+    none_of(size(byte_at(table, fourth)))
 }
 
 // Where the first daughter is looked for: nowhere if the rule is of another category than the goal.
-pub(crate) fn begin(
-    table: &[u8],
-    words: &[u16],
-    rule: usize,
-    goal: Item,
-    d: Daughters,
-    known: &[u64],
-) -> Look
-    requires { ⌜ RuleOf (now table) rule × Looking (now known) goal × Seated (now table) rule d 0 ⌝ }
-    ensures { λ l. ⌜ Seeks (now (table .entry)) (now (words .entry)) rule goal d 0 (now (known .entry)) l ⌝ }
+pub(crate) fn begin(table: &[u8], words: &[u16], known: &[u64], rule: usize, goal: Item) -> Look
+    requires { ⌜ RuleOf (now table) rule × Looking (now known) goal ⌝ }
+    ensures { λ l. ⌜ Seeks (now (table .entry)) (now (words .entry)) rule goal (noneOf (rankOf (now (table .entry)) rule)) 0 (now (known .entry)) l ⌝ }
 {
     let third = rule + 2;
+    let d = none_yet(table, rule);
     if byte_at(table, third) == goal.category {
-        return look_for(table, words, rule, goal, d, 0, known);
+        return look_for(table, words, known, rule, goal, d, 0);
     }
-    only(0)
+    only(d, 0, 0)
 }
 
-// Where daughter k is looked for: nowhere if the daughter before it, of this code, is not as asked.
+// Where the next daughter is looked for, with the known item at a place as this one: nowhere if this one is not as asked.
 pub(crate) fn onward(
     table: &[u8],
     words: &[u16],
+    known: &[u64],
     rule: usize,
     goal: Item,
-    d: Daughters,
-    k: usize,
-    w: Wants,
-    code: u64,
-    known: &[u64],
+    l: Look,
+    place: usize,
 ) -> Look
-    requires { ⌜ RuleOf (now table) rule × Looking (now known) goal × Seated (now table) rule d k × (k < 3) ⌝ }
-    requires { ⌜ (Leads (now table) (now words) rule goal d → Meets w (packing.knownOf code)) ⌝ }
-    ensures { λ l. ⌜ Seeks (now (table .entry)) (now (words .entry)) rule goal d k (now (known .entry)) l ⌝ }
+    requires { ⌜ Onward (now table) (now words) rule goal (now known) l place × (l .turn < 2) ⌝ }
+    ensures { λ r. ⌜ Seeks (now (table .entry)) (now (words .entry)) rule goal (spec.taken (l .chosen) (l .turn) (getD (now (known .entry)) place 0)) (l .turn + 1) (now (known .entry)) r ⌝ }
 {
-    if meets(w, code) {
-        return look_for(table, words, rule, goal, d, k, known);
+    let code = known[place];
+    let d = taken(l.chosen, l.turn, code);
+    let next = l.turn + 1;
+    if meets(l.wants, code) {
+        return look_for(table, words, known, rule, goal, d, next);
     }
-    only(0)
+    only(d, next, 0)
 }
 
-// Does the rule give the goal, with the right heights, from these daughters with the last of this code?
+// Does the rule give the goal, with the right heights, with the known item at a place as the last daughter?
 pub(crate) fn gives(
     table: &[u8],
     words: &[u16],
+    known: &[u64],
     rule: usize,
     goal: Item,
-    d: Daughters,
-    w: Wants,
-    code: u64,
+    l: Look,
+    place: usize,
 ) -> bool
-    requires { ⌜ RuleOf (now table) rule × (1 ≤ goal .height) × Seated (now table) rule d 2 × (code < 2 ^ 60) × (1 ≤ packing.knownOf code .item .category) ⌝ }
-    requires { ⌜ (Leads (now table) (now words) rule goal (spec.taken d 2 code) → Meets w (packing.knownOf code)) ⌝ }
-    ensures { λ b. ⌜ Decides (Leads (now (table .entry)) (now (words .entry)) rule goal (spec.taken d 2 code)) b ⌝ }
+    requires { ⌜ Onward (now table) (now words) rule goal (now known) l place × (l .turn ≡ 2) ⌝ }
+    ensures { λ b. ⌜ Decides (Leads (now (table .entry)) (now (words .entry)) rule goal (spec.taken (l .chosen) (l .turn) (getD (now (known .entry)) place 0))) b ⌝ }
 {
-    if meets(w, code) {
-        return all_chosen(table, words, rule, goal, taken(d, 2, code));
+    let code = known[place];
+    if meets(l.wants, code) {
+        return all_chosen(table, words, rule, goal, taken(l.chosen, l.turn, code));
     }
     false
 }

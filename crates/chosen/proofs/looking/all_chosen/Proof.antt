@@ -5,11 +5,6 @@ use native.Mathlib.Omega.{arith}
 use borrow.Author.Needs.{needs}
 use Rattle.chosen.proofs.looking.all_chosen.Statement.{statement}
 use Rattle.chosen.proofs.looking.all_chosen.Tie as tie
-use Rattle.chosen.proofs.looking.all_chosen.Reads as reads
-use Rattle.chosen.proofs.looking.all_chosen.Lts as lts
-use Rattle.phrase.proofs.fits.Reads as fits-reads
-use Rattle.search.proofs.top.Reads as top-reads
-use Rattle.fields.proofs.size.Reads as size-reads
 
 top-requires : tie.Need-top-requires
 top-requires c κs = search needs
@@ -27,10 +22,19 @@ fits-requires : tie.Need-fits-requires
 fits-requires c κs = search needs
 
 returns : tie.Need-returns
-returns c = instead (gives-leads (c .before .before .before .before .before .before .before .pre .1) (omega (arith, c .before .before .before .before .top .ensures, c .before .before .before .size .ensures, c .before .before .size2 .ensures, c .before .if1 .taken))) (leads-gives (c .before .before .before .before .before .before .before .pre .1)) (c .fits2 .ensures)
+returns c =
+    let t = c .before .before .before .before in
+    let seated = t .before .before .before .pre .1 in
+    instead
+    (gives-leads seated (omega (arith, t .top .ensures, c .before .before .before .size .ensures, c .before .before .size2 .ensures, c .before .if1 .taken)))
+    (leads-gives seated)
+    (c .fits2 .ensures)
 
 returns-2 : tie.Need-returns-2
-returns-2 c = fails (λ w. omega (arith, leads-high (c .before .before .before .before .before .before .pre .1) w, c .before .before .before .top .ensures, c .before .before .size .ensures, c .before .size2 .ensures, c .if1 .left))
+returns-2 c =
+    let t = c .before .before .before in
+    let seated = t .before .before .before .pre .1 in
+    fails (λ w. omega (arith, leads-high seated w, t .top .ensures, c .before .before .size .ensures, c .before .size2 .ensures, c .if1 .left))
 
 pub all-chosen-spec : {M : Type 1} → statement M
 all-chosen-spec =

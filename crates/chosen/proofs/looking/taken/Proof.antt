@@ -3,10 +3,6 @@ use Rattle.chosen.proofs.Leading.{taken-by, taken-out}
 use borrow.Author.Needs.{needs}
 use Rattle.chosen.proofs.looking.taken.Statement.{statement}
 use Rattle.chosen.proofs.looking.taken.Tie as tie
-use Rattle.chosen.proofs.looking.taken.Reads as reads
-use Rattle.chosen.proofs.looking.taken.Lts as lts
-use Rattle.search.proofs.unpack.Reads as unpack-reads
-use Rattle.search.proofs.with.Reads as with-reads
 
 unpack-requires : tie.Need-unpack-requires
 unpack-requires c κs = search needs

@@ -1,4 +1,6 @@
 // The static library: the public calls under C names. Each writes code, place and count of its answer into a lent array of three numbers.
+#![tactic(auto)]
+
 ghost use Rattle.std.specs.Prelude.{get_or};
 ghost use Rattle.meaning.specs.Reading.{Read};
 ghost use Rattle.meaning.specs.TreeWriting.{TreeWritten};

@@ -11,7 +11,7 @@ use sentence::Answer as SentenceAnswer;
 use tree::TreeAnswer;
 
 // Code, place and count.
-#[derive(Drop)]
+#[derive(Clone, Copy)]
 pub(crate) struct Numbers {
     code: u64,
     place: usize,

@@ -1,4 +1,6 @@
 // The chosen function and daughters of a known item.
+#![tactic(auto)]
+
 mod looking;
 mod walk;
 
@@ -10,7 +12,7 @@ use search::unpack;
 use walk::{Walked, walk};
 
 // The number of the chosen function and the places of its daughters, 0 where the rule has no such daughter.
-#[derive(Drop)]
+#[derive(Clone, Copy)]
 pub struct Choice {
     pub function: u16,
     pub one: u16,

@@ -12,7 +12,7 @@ use phrase::{Daughters, Item, fits};
 use search::{Spots, none_of, spots_for, top, unpack, with};
 
 // The daughters that are chosen, which daughter is looked for next, from 0, the places where, and what is asked of it.
-#[derive(Drop)]
+#[derive(Clone, Copy)]
 pub struct Look {
     pub chosen: Daughters,
     pub turn: usize,

@@ -8,7 +8,7 @@ use phrase::Item;
 use search::{first, next};
 
 // The place of a function in the order of function numbers, and the places of its daughters.
-#[derive(Drop)]
+#[derive(Clone, Copy)]
 pub enum Walked {
     At(usize, usize, usize, usize),
     Nowhere,

@@ -123,7 +123,7 @@ never-deep {t} {w} {allowance} {b} (deep e o d) h = deep-over (grammar_of t) (wo
 never-deep (read e c l v) h = omega (arith, verdict-below v)
 
 -- where a member stands
-mem-place : {C : List (Entry Item)} {e : Entry Item} → Mem e C → (j : ℕ) × (j < length C) × (get_or C j blank ≡ e)
+mem-place : {e : Entry Item} {C : List (Entry Item)} → Mem e C → (j : ℕ) × (j < length C) × (get_or C j blank ≡ e)
 mem-place (here q) = (0, omega arith, sym q)
 mem-place (there m) = let (j, h, q) = mem-place m in (suc j, omega arith, q)
 

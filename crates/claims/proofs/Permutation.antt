@@ -26,6 +26,7 @@ module _ {A : Type 0} where
   permuted-length (then p q) = permuted-length p ∙ permuted-length q
 
   pub permuted-mem : {a : A} {l m : List A} → Permuted l m → Mem a l → Mem a m
+  permuted-mem none i = elim i [ ]
   permuted-mem (keep p) (here e) = here e
   permuted-mem (keep p) (there i) = there (permuted-mem p i)
   permuted-mem swap (here e) = there (here e)

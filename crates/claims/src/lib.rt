@@ -1,1 +1,3 @@
 // Theorems across calls: definitions in specs/, proofs in proofs/. This crate has no function.
+#![tactic(auto)]
+

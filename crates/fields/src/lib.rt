@@ -1,4 +1,6 @@
 // Numbers in bytes and their sizes: what a table's and a sentence's fields are read by. No rule of the table stands here.
+#![tactic(auto)]
+
 mod bytes;
 mod sizes;
 

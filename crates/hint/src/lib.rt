@@ -1,4 +1,6 @@
 // What the daughters that are chosen, and the item that is wanted, ask of a daughter that is not chosen yet. Here stands what other crates may name.
+#![tactic(auto)]
+
 mod asking;
 mod codes;
 mod order;
@@ -10,14 +12,14 @@ pub use codes::{meets, reach_of};
 pub use order::turn_of;
 
 // Where a part that is not empty must start and end; ANYWHERE asks for nothing.
-#[derive(Drop)]
+#[derive(Clone, Copy)]
 pub struct Want {
     pub from: u64,
     pub to: u64,
 }
 
 // What is asked of a daughter: its height, from low to high, and what its parts want.
-#[derive(Drop)]
+#[derive(Clone, Copy)]
 pub struct Wants {
     pub low: u64,
     pub high: u64,
@@ -27,14 +29,14 @@ pub struct Wants {
 }
 
 // The daughter to be chosen next, from 0, or that all are.
-#[derive(Drop)]
+#[derive(Clone, Copy)]
 pub enum Turn {
     Daughter(usize),
     Done,
 }
 
 // Two parts of the codes, the first before the second: from low up to but not including high.
-#[derive(Drop)]
+#[derive(Clone, Copy)]
 pub struct Reach {
     pub low: u64,
     pub high: u64,

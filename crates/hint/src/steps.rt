@@ -12,7 +12,7 @@ use fields::{byte_at, number_at, size, wide};
 use phrase::{Daughters, held};
 
 // Any place; one place; or no place, since the row cannot run so.
-#[derive(Drop)]
+#[derive(Clone, Copy)]
 pub(crate) enum State {
     Free,
     At(usize),

@@ -1,4 +1,6 @@
 // The check of a sentence's words, alone and after that of its table, and the reading of the words.
+#![tactic(auto)]
+
 ghost use Rattle.std.specs.Prelude.{◌≡◌};
 ghost use Rattle.meaning.specs.Decode.{check_input};
 ghost use Rattle.table.specs.Views.{verdict_of};

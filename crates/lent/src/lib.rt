@@ -1,4 +1,6 @@
 // The check of a lent chart: whether it has too many records, and its first bad one.
+#![tactic(auto)]
+
 mod order;
 mod records;
 mod ways;
@@ -16,7 +18,7 @@ use crate::ways::is_way;
 use rules::{Found, find_rule};
 
 // What a lent chart is answered: that it passes, that it has too many records, or the first bad one.
-#[derive(Drop)]
+#[derive(Clone, Copy)]
 pub enum ChartAnswer {
     Good,
     Many,

@@ -1,4 +1,6 @@
 // The listing program: reads the table from board.mcg and words from standard input, and prints the reader's answer and the chart.
+#![tactic(auto)]
+
 use board::mcg_read;
 use libc::STDIN_FILENO;
 use programs::{empty_chart, print_answer, print_records, read_file, read_open};

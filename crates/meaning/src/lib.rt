@@ -1,10 +1,12 @@
 // What the reader and the writers mean: definitions in specs/, the theory over them in proofs/.
 // The code of this crate is the one list of the refusals that come before a chart is made.
+#![tactic(auto)]
+
 ghost use Rattle.std.specs.Prelude.{◌≡◌};
 ghost use Rattle.meaning.specs.Refusals.{code_of, place_of};
 
 // Why a table or a sentence is refused, with the place where it is not plain from the case.
-#[derive(Drop)]
+#[derive(Clone, Copy)]
 pub enum Refusal {
     Short(usize),
     Mark,

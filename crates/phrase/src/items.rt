@@ -8,7 +8,7 @@ use crate::ranges::Range;
 use fields::size;
 
 // A category and its ranges as start and end, with the height of its lowest tree.
-#[derive(Drop)]
+#[derive(Clone, Copy)]
 pub struct Item {
     pub category: u16,
     pub height: u16,
@@ -16,7 +16,7 @@ pub struct Item {
 }
 
 // The first count of three items.
-#[derive(Drop)]
+#[derive(Clone, Copy)]
 pub struct Daughters {
     pub count: usize,
     pub one: Item,

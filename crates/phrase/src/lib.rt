@@ -1,4 +1,6 @@
 // What one rule with given daughters gives in a sentence. Each file holds one topic; here stands what other crates may name.
+#![tactic(auto)]
+
 mod giving;
 mod items;
 mod ranges;

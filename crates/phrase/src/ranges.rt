@@ -5,14 +5,14 @@ ghost use Rattle.phrase.specs.Row as row;
 ghost use Rattle.phrase.specs.Phrase.{range_of, join_of, Decides};
 
 // Words from..to, or nothing as 0, 0.
-#[derive(Drop)]
+#[derive(Clone, Copy)]
 pub struct Range {
     pub from: usize,
     pub to: usize,
 }
 
 // What two ranges join to, or a row makes; or that they stand apart, or it makes nothing.
-#[derive(Drop)]
+#[derive(Clone, Copy)]
 pub enum Join {
     Joined(Range),
     Apart,

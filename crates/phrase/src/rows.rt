@@ -12,14 +12,14 @@ use fields::{byte_at, number_at, size};
 use rules::row_end;
 
 // A row of a rule: the place of its bytes, or a number past the last row.
-#[derive(Drop)]
+#[derive(Clone, Copy)]
 pub enum Row {
     At(usize),
     Past,
 }
 
 // Where a row can start: from first up to but not including end.
-#[derive(Drop)]
+#[derive(Clone, Copy)]
 struct Starts {
     first: usize,
     end: usize,

@@ -1,4 +1,6 @@
 // What the programs share: reading a file, and printing numbers and the records of a chart.
+#![tactic(auto)]
+
 ghost use Rattle.std.specs.Prelude.{◌≡◌, ◌+◌, ◌*◌, ◌<◌, ◌≤◌, length, get_or, replicate};
 ghost use Rattle.io.specs.Counts.{IsPrefixLen};
 ghost use Rattle.programs.specs.Files.{Within};

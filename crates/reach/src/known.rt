@@ -6,7 +6,7 @@ ghost use Rattle.reach.specs.Mirror.{IsFirst, Enters, Marks, Entered, Room};
 use crate::places::{both, only};
 
 // The category and the first range of a packed item.
-#[derive(Drop)]
+#[derive(Clone, Copy)]
 struct First {
     category: usize,
     from: usize,
@@ -14,7 +14,7 @@ struct First {
 }
 
 // A bit of one of the sets.
-#[derive(Drop)]
+#[derive(Clone, Copy)]
 struct Spot {
     number: usize,
     bit: usize,

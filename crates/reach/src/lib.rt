@@ -1,4 +1,6 @@
 // What a row can have where daughters of one part may be any known ones: a walk over sets of places.
+#![tactic(auto)]
+
 mod known;
 mod places;
 mod ranges;

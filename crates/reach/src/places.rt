@@ -8,7 +8,7 @@ use fields::size;
 use phrase::{Range, is_range};
 
 // Where a row may be: bit e - 1 for the end e; and whether it may have used no word yet.
-#[derive(Drop)]
+#[derive(Clone, Copy)]
 pub struct Places {
     pub ends: u64,
     pub still: bool,

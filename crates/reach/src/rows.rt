@@ -8,7 +8,7 @@ use fields::{byte_at, number_at, size};
 use phrase::{Daughters, held};
 
 // The categories of three daughters of one part that may be any known ones; 0 for a daughter that is chosen.
-#[derive(Drop)]
+#[derive(Clone, Copy)]
 pub struct Free {
     pub one: u16,
     pub two: u16,

@@ -1,4 +1,6 @@
 // The reader: all true items of a sentence as a chart, and whether the goal is one of them.
+#![tactic(auto)]
+
 ghost use Rattle.std.specs.Prelude.{◌≡◌, ◌*◌, ◌≤◌, length};
 ghost use Rattle.meaning.specs.Table.{got};
 ghost use Rattle.meaning.specs.Decode.{words_of, check_input};
@@ -23,7 +25,7 @@ mod room;
 
 // The reader's answer: the goal's place and the count of items; their count where the goal is none of them; a refusal of the table or the
 // words; the room that is too small; a height that is too great, which is never given.
-#[derive(Drop)]
+#[derive(Clone, Copy)]
 pub enum Answer {
     Yes(usize, usize),
     No(usize),

@@ -1,4 +1,6 @@
 // Walking the rules of a table that is accepted, and the rules in the order of their function numbers.
+#![tactic(auto)]
+
 mod order;
 mod walk;
 

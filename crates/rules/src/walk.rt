@@ -7,7 +7,7 @@ ghost use Rattle.rules.specs.Walk.{Finds};
 use fields::{byte_at, number_at, size};
 
 // The place of a rule, or that no rule has the function number.
-#[derive(Drop)]
+#[derive(Clone, Copy)]
 pub enum Found {
     At(usize),
     Unknown,

@@ -1,4 +1,6 @@
 // The search: level by level all items that can be made, as packed items in chart order.
+#![tactic(auto)]
+
 mod shapes;
 mod spots;
 mod trying;

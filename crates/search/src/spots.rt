@@ -6,7 +6,7 @@ ghost use Rattle.search.specs.Spots.{Finds, Ordered, Skips};
 use store::find;
 
 // The places from lo up to gap, and from resume up to hi.
-#[derive(Drop)]
+#[derive(Clone, Copy)]
 pub struct Spots {
     pub lo: usize,
     pub gap: usize,

@@ -1,4 +1,6 @@
 // The sentence writer: a tree list, each node's function number before its daughters', is written as the words of its tree.
+#![tactic(auto)]
+
 ghost use Rattle.std.specs.Prelude.{◌≡◌, ◌≤◌, length};
 ghost use Rattle.std.proofs.Math.Option.{none};
 ghost use Rattle.meaning.specs.Table.{got, check_table};
@@ -19,7 +21,7 @@ mod walk;
 
 // The sentence writer's answer: the table's refusal; the node at which the list is wrong; how many words the text has no room for;
 // how many words were written.
-#[derive(Drop)]
+#[derive(Clone, Copy)]
 pub enum Answer {
     Refused(Refusal),
     TreeList(usize),

@@ -6,7 +6,7 @@ ghost use Rattle.sentence.specs.Nodes.{Within, walked, walked_of, Pushed};
 use fields::{byte_at, size};
 
 // Whether a list is one tree, or the first node at which something is wrong.
-#[derive(Drop)]
+#[derive(Clone, Copy)]
 pub enum Walked {
     Whole,
     Wrong(usize),

@@ -8,27 +8,27 @@ use fields::{byte_at, cut, number_at, outside};
 use meaning::Refusal;
 
 // A place of the table, by value: each field takes it and hands back the next.
-#[derive(Drop)]
+#[derive(Clone, Copy)]
 pub(crate) struct Cursor {
     pub(crate) at: usize,
 }
 
 // A field's number, with the next cursor; or the table's end, which cuts it.
-#[derive(Drop)]
+#[derive(Clone, Copy)]
 pub(crate) enum Field {
     Read(u16, Cursor),
     Cut(usize),
 }
 
 // A symbol's kind and number, with the next cursor; or the table's end, which cuts it.
-#[derive(Drop)]
+#[derive(Clone, Copy)]
 pub(crate) enum SymbolField {
     Three(u16, u16, Cursor),
     Fewer(usize),
 }
 
 // The cursor after a part that was checked; or the refusal.
-#[derive(Drop)]
+#[derive(Clone, Copy)]
 pub(crate) enum Step {
     Next(Cursor),
     Refused(Refusal),

@@ -1,4 +1,6 @@
 // The check of a rule table.
+#![tactic(auto)]
+
 ghost use Rattle.std.specs.Prelude.{◌≡◌};
 ghost use Rattle.meaning.specs.Table as spec;
 ghost use Rattle.table.specs.Views.{verdict_of};
@@ -15,7 +17,7 @@ mod rows;
 mod rules;
 
 // What was checked: that it is valid, or the first refusal in document 01's order.
-#[derive(Drop)]
+#[derive(Clone, Copy)]
 pub enum Verdict {
     Valid,
     Invalid(Refusal),

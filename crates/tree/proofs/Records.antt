@@ -54,9 +54,9 @@ module _ (G : Grammar) (c : List ℕ) (i : ℕ) where
   unfolding entry_at
   entry-function = refl
 
-  entry_known : (entry_at G c i).known ≡ stated_at c i
+  known-entry : (entry_at G c i).known ≡ stated_at c i
   unfolding entry_at
-  entry_known = refl
+  known-entry = refl
 
   module _ (there : 12 * i + 12 ≤ length c) (three : many ≤ 3) where
     pub places-many : length (entry_at G c i).places ≡ many
@@ -92,7 +92,7 @@ module _ (t ws c : List ℕ) (count : ℕ) (accepted : check_table t ≡ got tt)
       let p = place_is G c i room (three i h) k l in
       let below : place_at c i k < count = omega (arith, lent_length G c count) in
       let s : (get_or (lent G c count) (place_at c i k) blank).known ≡ d = rw (← p) e in
-      let s' : stated_at c (place_at c i k) ≡ d = sym (ap entry_known (lent_at G c count (place_at c i k) below) ∙ entry_known G c (place_at c i k)) ∙ s in
+      let s' : stated_at c (place_at c i k) ≡ d = sym (ap entry_known (lent_at G c count (place_at c i k) below) ∙ known-entry G c (place_at c i k)) ∙ s in
       let f : height_at c (place_at c i k) ≡ d.height = sym (stated-height c (place_at c i k)) ∙ ap (λ (x : Known Item). x.height) s' in
       (below, omega (arith, each_at (bounded w.daughters {n = tallest w.daughters} (omega arith)) i', w.high, stated-height c i))
 

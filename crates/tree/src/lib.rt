@@ -1,4 +1,6 @@
 // The tree writer: from a chart that passes the check, the function numbers of the tree at a record, each node before its daughters.
+#![tactic(auto)]
+
 ghost use Rattle.std.specs.Prelude.{◌≡◌, ◌/◌, length};
 ghost use Rattle.meaning.specs.Table.{got, check_table};
 ghost use Rattle.meaning.specs.Decode.{check_input};

@@ -1,5 +1,7 @@
 // The worked cases that are not proved: document 01's, and readings of tables that documents 000, 001 and 004 print. The file stdout
 // was written by hand from the documents.
+#![tactic(auto)]
+
 ghost use Rattle.io.specs.Counts.{IsPrefixLen};
 
 use board::{mcg_read, mcg_sentence};

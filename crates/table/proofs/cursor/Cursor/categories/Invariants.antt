@@ -1,0 +1,9 @@
+use mathlib.Core.Path.{◌≡◌}
+use Rattle.meaning.specs.Table.{times, category}
+use Rattle.table.proofs.cursor.Cursor.categories.Given as goal
+
+abbrev pub invariant-loop-left : goal.invariant-loop-left
+invariant-loop-left l = times l.initial.left (category l.table) l.initial.c.at ≡ times l.left (category l.table) l.c.at
+
+abbrev pub decreases-loop-left : goal.decreases-loop-left
+decreases-loop-left l = l.left

@@ -1,0 +1,4 @@
+use Rattle.table.proofs.cursor.Cursor.category.Goals as goal
+
+pub returns : goal.returns
+returns c = rw (← c.byte_at.ensures.0) c.limited.ensures

@@ -1,0 +1,20 @@
+use native.Mathlib.Omega.{arith}
+use borrow.Author.Tests.{ltb-false}
+use Prim.Native.Nat.{◌+◌, ◌≤◌}
+use lib.ListN.{length}
+use Rattle.meaning.specs.Table.{number_field}
+use Rattle.fields.proofs.Laws.{told}
+use Rattle.table.proofs.cursor.Cursor.number.Goals as goal
+
+pub returns-then-cut : goal.returns-then-cut
+unfolding number_field
+returns-then-cut c = simp (told c.cut.ensures c.if-cut.true)
+
+pub overflow_add-next : goal.overflow_add-next
+overflow_add-next c =     let a = c.args in
+    let h : a.self.at + 2 ≤ length a.table.now = ltb-false _ _ (told c.cut.ensures c.if-cut.false) in
+    omega arith
+
+pub returns : goal.returns
+unfolding number_field
+returns c = simp (told c.cut.ensures c.if-cut.false, c.number_at.ensures)

@@ -1,0 +1,9 @@
+-- No more bytes came than there is room for; what is left of the room falls.
+use Rattle.std.proofs.Common.{length, ◌-◌, ◌≤◌}
+use Rattle.programs.proofs.read_open.Given as goal
+
+abbrev pub invariant-loop-n : goal.invariant-loop-n
+invariant-loop-n g l = l.n ≤ length l.bytes
+
+abbrev pub decreases-loop-n : goal.decreases-loop-n
+decreases-loop-n g l = length l.initial.bytes - l.n

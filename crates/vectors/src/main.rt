@@ -2,32 +2,35 @@
 // was written by hand from the documents.
 #![tactic(auto)]
 
-ghost use Rattle.io.specs.Counts.{IsPrefixLen};
+ghost use Rattle.programs.specs.Counts.{IsPrefixLen};
 
 use board::{mcg_read, mcg_sentence};
 use programs::{
     empty_chart, height_at, print, print_answer, print_numbers, print_records, read_file, say,
 };
+use std::io;
+use std::rt::Files;
 
 // Reads words by a table, and prints code, place and count; on a yes also the goal's height.
-fn reading(table: &[u8], words: &[u8]) {
+fn reading(rt: &impl Print, table: &[u8], words: &[u8]) -> io::Result<()> {
     let mut chart = empty_chart();
     let mut answer = [0u64; 3];
     mcg_read(table, words, 0, &mut chart, &mut answer);
-    print_answer(&answer);
+    print_answer(rt, &answer)?;
     if answer[0] == 0 {
-        say(b"height ");
-        print(height_at(&chart, answer[1]), b'\n');
+        say(rt, b"height ")?;
+        print(rt, height_at(&chart, answer[1]), b'\n')?;
     }
+    Ok(())
 }
 
 // The same with the records of the chart.
-fn chart_of(table: &[u8], words: &[u8]) {
+fn chart_of(rt: &impl Print, table: &[u8], words: &[u8]) -> io::Result<()> {
     let mut chart = empty_chart();
     let mut answer = [0u64; 3];
     mcg_read(table, words, 0, &mut chart, &mut answer);
-    print_answer(&answer);
-    print_records(&chart, answer[2]);
+    print_answer(rt, &answer)?;
+    print_records(rt, &chart, answer[2])
 }
 
 // Writes a word's low byte at each word of a sentence that is all 0.
@@ -40,16 +43,16 @@ fn repeat(word: u8, words: &mut [u8]) {
 }
 
 // Reads a sentence of one word, as long as the slice.
-fn repeated(table: &[u8], word: u8, words: &mut [u8]) {
+fn repeated(rt: &impl Print, table: &[u8], word: u8, words: &mut [u8]) -> io::Result<()> {
     repeat(word, words);
-    reading(table, words);
+    reading(rt, table, words)
 }
 
 // Reads a table with one byte changed.
-fn read_changed(name: &[u8], at: usize, byte: u8, table: &mut [u8]) -> usize
+fn read_changed(rt: &impl Files, name: &[u8], at: usize, byte: u8, table: &mut [u8]) -> usize
     ensures { IsPrefixLen result table.new }
 {
-    let n = read_file(name, table);
+    let n = read_file(rt, name, table);
     if at < table.len() {
         table[at] = byte;
     }
@@ -57,83 +60,83 @@ fn read_changed(name: &[u8], at: usize, byte: u8, table: &mut [u8]) -> usize
 }
 
 // Document 01, 'Worked tables': AMB with 62 and with 63 nines.
-fn amb() {
-    let mut table = io::buffer();
-    let n = read_file(b"amb.mcg", &mut table);
-    say(b"AMB, 62 nines\n");
-    repeated(&table[..n], 9, &mut [0u8; 124]);
-    say(b"AMB, 63 nines\n");
-    repeated(&table[..n], 9, &mut [0u8; 126]);
+fn amb(rt: &(impl Files + Print)) -> io::Result<()> {
+    let mut table = [0u8; 4096];
+    let n = read_file(rt, b"amb.mcg", &mut table);
+    say(rt, b"AMB, 62 nines\n")?;
+    repeated(rt, &table[..n], 9, &mut [0u8; 124])?;
+    say(rt, b"AMB, 63 nines\n")?;
+    repeated(rt, &table[..n], 9, &mut [0u8; 126])
 }
 
 // Document 01, 'Worked tables': COPY with byte 21 made 1.
-fn copy() {
-    let mut table = io::buffer();
-    let n = read_changed(b"copy.mcg", 21, 1, &mut table);
-    say(b"COPY, byte 21 made 1\n");
-    reading(&table[..n], &[7, 0, 7, 0]);
+fn copy(rt: &(impl Files + Print)) -> io::Result<()> {
+    let mut table = [0u8; 4096];
+    let n = read_changed(rt, b"copy.mcg", 21, 1, &mut table);
+    say(rt, b"COPY, byte 21 made 1\n")?;
+    reading(rt, &table[..n], &[7, 0, 7, 0])
 }
 
 // Document 000, section 2: the tree c (s (s z)) says aabbcc, and no tree says aabbc.
-fn abc() {
-    let mut table = io::buffer();
-    let n = read_file(b"abc.mcg", &mut table);
-    say(b"aabbcc\n");
-    reading(&table[..n], &[1, 0, 1, 0, 2, 0, 2, 0, 3, 0, 3, 0]);
-    say(b"aabbc\n");
-    reading(&table[..n], &[1, 0, 1, 0, 2, 0, 2, 0, 3, 0]);
-    say(b"c (s (s z))\n");
-    spelled(&table[..n], &[1, 2, 2, 3]);
+fn abc(rt: &(impl Files + Print)) -> io::Result<()> {
+    let mut table = [0u8; 4096];
+    let n = read_file(rt, b"abc.mcg", &mut table);
+    say(rt, b"aabbcc\n")?;
+    reading(rt, &table[..n], &[1, 0, 1, 0, 2, 0, 2, 0, 3, 0, 3, 0])?;
+    say(rt, b"aabbc\n")?;
+    reading(rt, &table[..n], &[1, 0, 1, 0, 2, 0, 2, 0, 3, 0])?;
+    say(rt, b"c (s (s z))\n")?;
+    spelled(rt, &table[..n], &[1, 2, 2, 3])
 }
 
 // Prints the sentence writer's answer to a list, and the first six words.
-fn spelled(table: &[u8], list: &[u16]) {
+fn spelled(rt: &impl Print, table: &[u8], list: &[u16]) -> io::Result<()> {
     let mut text = [0u16; 6];
     let mut answer = [0u64; 3];
     mcg_sentence(table, list, &mut text, &mut answer);
-    print_answer(&answer);
-    print_numbers(&text);
+    print_answer(rt, &answer)?;
+    print_numbers(rt, &text)
 }
 
 // Document 001, figures 3.1 and 3.2: the passive items of abcd.
-fn figure() {
-    let mut table = io::buffer();
-    let n = read_file(b"figure-3-1.mcg", &mut table);
-    say(b"figure 3.2, abcd\n");
-    chart_of(&table[..n], &[1, 0, 2, 0, 3, 0, 4, 0]);
+fn figure(rt: &(impl Files + Print)) -> io::Result<()> {
+    let mut table = [0u8; 4096];
+    let n = read_file(rt, b"figure-3-1.mcg", &mut table);
+    say(rt, b"figure 3.2, abcd\n")?;
+    chart_of(rt, &table[..n], &[1, 0, 2, 0, 3, 0, 4, 0])
 }
 
 // Document 004, table 4: as many items as its column of nodes has, for 2 to 7 words.
-fn short_strings(table: &[u8]) {
-    repeated(table, 1, &mut [0u8; 4]);
-    repeated(table, 1, &mut [0u8; 6]);
-    repeated(table, 1, &mut [0u8; 8]);
-    repeated(table, 1, &mut [0u8; 10]);
-    repeated(table, 1, &mut [0u8; 12]);
-    repeated(table, 1, &mut [0u8; 14]);
+fn short_strings(rt: &impl Print, table: &[u8]) -> io::Result<()> {
+    repeated(rt, table, 1, &mut [0u8; 4])?;
+    repeated(rt, table, 1, &mut [0u8; 6])?;
+    repeated(rt, table, 1, &mut [0u8; 8])?;
+    repeated(rt, table, 1, &mut [0u8; 10])?;
+    repeated(rt, table, 1, &mut [0u8; 12])?;
+    repeated(rt, table, 1, &mut [0u8; 14])
 }
 
 // The same for 8, 9, 10, 20 and 30 words.
-fn long_strings(table: &[u8]) {
-    repeated(table, 1, &mut [0u8; 16]);
-    repeated(table, 1, &mut [0u8; 18]);
-    repeated(table, 1, &mut [0u8; 20]);
-    repeated(table, 1, &mut [0u8; 40]);
-    repeated(table, 1, &mut [0u8; 60]);
+fn long_strings(rt: &impl Print, table: &[u8]) -> io::Result<()> {
+    repeated(rt, table, 1, &mut [0u8; 16])?;
+    repeated(rt, table, 1, &mut [0u8; 18])?;
+    repeated(rt, table, 1, &mut [0u8; 20])?;
+    repeated(rt, table, 1, &mut [0u8; 40])?;
+    repeated(rt, table, 1, &mut [0u8; 60])
 }
 
-fn gxx() {
-    let mut table = io::buffer();
-    let n = read_file(b"gxx.mcg", &mut table);
-    say(b"Gxx, 2, 3, 4, 5, 6, 7, 8, 9, 10, 20, 30 words\n");
-    short_strings(&table[..n]);
-    long_strings(&table[..n]);
+fn gxx(rt: &(impl Files + Print)) -> io::Result<()> {
+    let mut table = [0u8; 4096];
+    let n = read_file(rt, b"gxx.mcg", &mut table);
+    say(rt, b"Gxx, 2, 3, 4, 5, 6, 7, 8, 9, 10, 20, 30 words\n")?;
+    short_strings(rt, &table[..n])?;
+    long_strings(rt, &table[..n])
 }
 
-fn main() {
-    amb();
-    copy();
-    abc();
-    figure();
-    gxx();
+fn main(rt: HostRuntime) -> io::Result<()> {
+    amb(&rt)?;
+    copy(&rt)?;
+    abc(&rt)?;
+    figure(&rt)?;
+    gxx(&rt)
 }

@@ -1,4 +1,4 @@
-// The static library: the public calls under C names. Each writes code, place and count of its answer into a lent array of three numbers.
+// The public calls, as `board_c` hands them to C. Each writes code, place and count of its answer into a lent array of three numbers.
 #![tactic(auto)]
 
 ghost use Rattle.std.specs.Prelude.{get_or};
@@ -11,8 +11,7 @@ use crate::numbers::{hand_back, of_read, of_sentence, of_tree};
 mod numbers;
 
 // The reader.
-#[unsafe(no_mangle)]
-pub extern "C" fn mcg_read(
+pub fn mcg_read(
     table: &[u8],
     words: &[u8],
     allowance: usize,
@@ -26,8 +25,7 @@ pub extern "C" fn mcg_read(
 }
 
 // The tree writer.
-#[unsafe(no_mangle)]
-pub extern "C" fn mcg_tree(
+pub fn mcg_tree(
     table: &[u8],
     words: &[u8],
     chart: &[u16],
@@ -43,8 +41,7 @@ pub extern "C" fn mcg_tree(
 }
 
 // The sentence writer.
-#[unsafe(no_mangle)]
-pub extern "C" fn mcg_sentence(table: &[u8], list: &[u16], text: &mut [u16], answer: &mut [u64; 3])
+pub fn mcg_sentence(table: &[u8], list: &[u16], text: &mut [u16], answer: &mut [u64; 3])
     ensures { SentenceWritten table.now list.now text.old (get_or answer.new 0 0) (get_or answer.new 1 0) (get_or answer.new 2 0) text.new }
 {
     let a = sentence::sentence(table, list, text);

@@ -30,7 +30,7 @@ fn repository() -> PathBuf {
 
 fn how_to_go_on(library: &Path, repository: &Path) -> String {
     format!(
-        "{} is not there yet. Please build it first, with `rt staticlib board` in {}; \
+        "{} is not there yet. Please build it first, with `./tools/build-library` in {}; \
          or name the folder of a libboard.a, as an absolute path, in BOARD_LIB_DIR. \
          The tests of the Rust side that need no library: \
          cargo test --offline --workspace --exclude board --no-default-features",

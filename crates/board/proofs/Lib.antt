@@ -1,3 +1,2 @@
--- What the library's calls hand back: the array holds the answer's numbers; last, that any two results of a call are equal.
-mod Laws
+-- That any two results of a library's call are equal.
 pub mod Theorems

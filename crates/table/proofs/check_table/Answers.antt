@@ -1,6 +1,5 @@
--- `table::check_table` meets its contract. `read-header` and `read-dims` say what was read at the two places where a cursor came back,
--- and `rest` what is left of `check_table` where the start's dimension was found right. Assumes nothing.
-use borrow.Author.Rules.{rules}
+-- `table::check_table` meets its contract. `read-dims` says what was read where the dimensions' cursor came back, and `rest` what is
+-- left of `check_table` where the start's dimension was found right. Assumes nothing.
 use native.Mathlib.Omega.{arith}
 use Prim.Native.Nat.{ℕ}
 use mathlib.Core.Path.{◌≡◌, sym, ◌∙◌}
@@ -13,66 +12,39 @@ use Rattle.meaning.specs.Table.{got, refuse_if, ◌>>=◌, times, byte, number, 
 use Rattle.table.specs.Views.{step_of}
 use Rattle.fields.proofs.Laws.{knew, told}
 use Rattle.meaning.proofs.Fields.{header-there, dims-there}
-use Rattle.table.proofs.check_table.Tie as tie
 use Rattle.table.proofs.check_table.Goals as goal
 
--- `table::check_table` meets its contract. `read-header` and `read-dims` say what was read at the two places where a cursor came back,
--- and `rest` what is left of `check_table` where the start's dimension was found right. Assumes nothing.
-abbrev table : tie.In-Next → List ℕ
-table c = c.args.table.now
-
--- the places that the header and the dimensions led to
-abbrev first : tie.In-Next → ℕ
-first c = c.in-Next.c.at
-
-abbrev second : tie.In-Next-dimensions → ℕ
-second c = c.in-Next-dimensions.d.at
-
-read-header : (c : tie.In-Next) → header (table c) ≡ got (first c)
-read-header c = knew step_of c.header.ensures c.in-Next.is
-
-abbrev earlier : tie.In-Next-dimensions → tie.After-known-told2
-earlier c = c.before.before.before.before.before.before
-
-read-dims : (c : tie.In-Next-dimensions) → times (byte (table (earlier c)) 5) (dimension (table (earlier c))) (first (earlier c)) ≡ got (second c)
-read-dims c =
-    simp (c.size.ensures, c.byte_at.ensures.0)
-    at (knew step_of c.dimensions.ensures c.in-Next-dimensions.is)
-
--- the byte that the start's dimension was read from
-start-at : (c : tie.After-byte_at-in-Next-dimensions-2) → c.byte_at-in-Next-dimensions-2.result ≡ dimension_of (table (earlier c.before.before.before)) (byte (table (earlier c.before.before.before)) 6)
-start-at c = simp (c.size-place.ensures, c.byte_at-in-Next-dimensions.ensures.0) at c.byte_at-in-Next-dimensions-2.ensures.0
-
-abbrev dims : tie.Else-byte_at-ne1 → tie.After-known-told4
-dims c = c.before.before.before.before
-
+-- the definition where the header led to p, the dimensions to q, and the start's dimension is 1
 rest :
-    (c : tie.Else-byte_at-ne1) → check_table (table (earlier (dims c)))
-    ≡ rules (table (earlier (dims c))) (number (table (earlier (dims c))) 7) (second (dims c)) >>= (λ next. refuse_if (ltb next (length (table (earlier (dims c))))) (Trailing next))
+    (t : List ℕ) (p q : ℕ) → header t ≡ got p → times (byte t 5) (dimension t) p ≡ got q → dimension_of t (byte t 6) ≡ 1
+    → check_table t ≡ rules t (number t 7) q >>= (λ next. refuse_if (ltb next (length t)) (Trailing next))
 unfolding check_table
-rest c = simp (read-header (earlier (dims c)), read-dims (dims c), eq-eqb _ _ (told (start-at c.before) c.if-byte_at-ne1.left))
-
-read-rules : (c : tie.In-Next-rules) → rules (table (earlier (dims c.before.before.before.before.before.before))) (number (table (earlier (dims c.before.before.before.before.before.before))) 7) (second (dims c.before.before.before.before.before.before)) ≡ got c.in-Next-rules.e.at
-read-rules c =
-    simp (c.size-in-Next-dimensions.ensures, c.number_at.ensures)
-    at (knew step_of c.rules.ensures c.in-Next-rules.is)
+rest t p q h d s = simp (h, d, eq-eqb _ _ s)
 
 pub returns-then-byte_at-ne1 : goal.returns-then-byte_at-ne1
 unfolding check_table
-returns-then-byte_at-ne1 c =     let b = c.before.before in
-    let d = b.before.before.before in
-    simp (read-header (earlier d), read-dims d, ← start-at b, ne_eqb _ _ c.if-byte_at-ne1.taken, b.before.size2.ensures, b.before.before.byte-at2.ensures.0)
+returns-then-byte_at-ne1 c =
+    let h = knew step_of c.header.ensures c.in-Next.is in
+    let d = simp (c.size.ensures, c.byte_at.ensures.0) at (knew step_of c.dimensions.ensures c.in-Next-dimensions.is) in
+    let s = simp (c.size-place.ensures, c.byte_at-in-Next-dimensions.ensures.0) at c.byte_at-in-Next-dimensions-2.ensures.0 in
+    simp (h, d, ← s, ne_eqb _ _ c.if-byte_at-ne1.true, c.size-place.ensures, c.byte_at-in-Next-dimensions.ensures.0)
 
 pub rules-requires : goal.rules-requires
-rules-requires c = let d = dims c.before.before.before in
-    let h = header-there _ _ (read-header (earlier d)) in
+rules-requires c =
+    let d = simp (c.size.ensures, c.byte_at.ensures.0) at (knew step_of c.dimensions.ensures c.in-Next-dimensions.is) in
+    let h = header-there _ _ (knew step_of c.header.ensures c.in-Next.is) in
     record {
-    dims = dims-there (table (earlier d)) _ _ h.0 (read-dims d);
-    count_bound = omega (arith, h.1);
-  }
+      dims = dims-there c.args.table.now _ _ h.0 d;
+      count_bound = omega (arith, h.1);
+    }
 
 pub returns-then-end-table : goal.returns-then-end-table
-returns-then-end-table c = sym (rest c.before.before.before.before.before.before.before.before ∙ simp (read-rules c.before.before, lt-ltb _ _ c.if-end-table.taken))
+returns-then-end-table c =
+    let h = knew step_of c.header.ensures c.in-Next.is in
+    let d = simp (c.size.ensures, c.byte_at.ensures.0) at (knew step_of c.dimensions.ensures c.in-Next-dimensions.is) in
+    let s = simp (c.size-place.ensures, c.byte_at-in-Next-dimensions.ensures.0) at c.byte_at-in-Next-dimensions-2.ensures.0 in
+    let r = simp (c.size-in-Next-dimensions.ensures, c.number_at.ensures) at (knew step_of c.rules.ensures c.in-Next-rules.is) in
+    sym (rest _ _ _ h d (told s c.if-byte_at-ne1.false) ∙ simp (r, lt-ltb _ _ c.if-end-table.true))
 
 pub returns-in-Refused : goal.returns-in-Refused
 unfolding check_table
@@ -80,15 +52,24 @@ returns-in-Refused c = simp (knew step_of c.header.ensures c.in-Refused.is)
 
 pub returns-in-Refused-dimensions : goal.returns-in-Refused-dimensions
 unfolding check_table
-returns-in-Refused-dimensions c =     let b = c.before.before.before.before in
+returns-in-Refused-dimensions c =
     simp (
-      read-header b.before.before.before,
-      simp (b.before.size.ensures, b.before.before.byte_at.ensures.0) at (knew step_of b.dimensions.ensures c.in-Refused-dimensions.is),
+      knew step_of c.header.ensures c.in-Next.is,
+      simp (c.size.ensures, c.byte_at.ensures.0) at (knew step_of c.dimensions.ensures c.in-Refused-dimensions.is),
     )
 
 pub returns-in-Refused-rules : goal.returns-in-Refused-rules
-returns-in-Refused-rules c =     let b = c.before.before.before.before in
-    sym (rest b.before.before.before ∙ rw (simp (b.before.size3.ensures, b.before.before.number_at.ensures) at (knew step_of b.rules.ensures c.in-Refused-rules.is)))
+returns-in-Refused-rules c =
+    let h = knew step_of c.header.ensures c.in-Next.is in
+    let d = simp (c.size.ensures, c.byte_at.ensures.0) at (knew step_of c.dimensions.ensures c.in-Next-dimensions.is) in
+    let s = simp (c.size-place.ensures, c.byte_at-in-Next-dimensions.ensures.0) at c.byte_at-in-Next-dimensions-2.ensures.0 in
+    let r = simp (c.size-in-Next-dimensions.ensures, c.number_at.ensures) at (knew step_of c.rules.ensures c.in-Refused-rules.is) in
+    sym (rest _ _ _ h d (told s c.if-byte_at-ne1.false) ∙ rw r)
 
 pub returns-else-end-table : goal.returns-else-end-table
-returns-else-end-table c = sym (rest c.before.before.before.before.before.before.before.before ∙ simp (read-rules c.before.before, le-ltb _ _ c.if-end-table.left))
+returns-else-end-table c =
+    let h = knew step_of c.header.ensures c.in-Next.is in
+    let d = simp (c.size.ensures, c.byte_at.ensures.0) at (knew step_of c.dimensions.ensures c.in-Next-dimensions.is) in
+    let s = simp (c.size-place.ensures, c.byte_at-in-Next-dimensions.ensures.0) at c.byte_at-in-Next-dimensions-2.ensures.0 in
+    let r = simp (c.size-in-Next-dimensions.ensures, c.number_at.ensures) at (knew step_of c.rules.ensures c.in-Next-rules.is) in
+    sym (rest _ _ _ h d (told s c.if-byte_at-ne1.false) ∙ simp (r, le-ltb _ _ c.if-end-table.false))

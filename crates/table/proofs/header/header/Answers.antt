@@ -1,3 +1,4 @@
+-- `table::header` meets its contract: each test is the definition's, in its order. Assumes nothing.
 use borrow.Author.Tests.{lt-ltb, le-ltb, eq-eqb, ne_eqb}
 use Rattle.meaning.specs.Table.{header}
 use Rattle.fields.proofs.Laws.{told}

@@ -1,3 +1,4 @@
+-- `table::limits` meets its contract: each test is the definition's, in its order. Assumes nothing.
 use borrow.Author.Tests.{lt-ltb, le-ltb}
 use Rattle.meaning.specs.Table.{limits}
 use Rattle.fields.proofs.Laws.{told}

@@ -1,3 +1,4 @@
+-- `table::daughter_dimension` meets its contract: the byte that was read is that of the daughter's category. Assumes nothing.
 use Rattle.table.proofs.marks.daughter_dimension.Goals as goal
 
 pub returns : goal.returns

@@ -1,3 +1,4 @@
+-- `table::missing` meets its contract: what `any` says of all daughters, it says of those that are left. Assumes nothing.
 use native.Mathlib.Omega.{arith}
 use mathlib.Core.Path.{sym, ◌∙◌}
 use Rattle.meaning.specs.Table.{missing}
@@ -16,7 +17,8 @@ pub overflow_sub-left : goal.overflow_sub-left
 overflow_sub-left c = omega arith
 
 pub unused_of-requires : goal.unused_of-requires
-unused_of-requires c =     let s = c.requires in
+unused_of-requires c =
+    let s = c.requires in
     let m = s.dims c.loop-left.left (omega arith) (omega arith) in
     (omega (arith, s.rank), omega arith)
 

@@ -1,3 +1,4 @@
+-- `table::seen_before` meets its contract: what `any` says of all numbers seen, it says of those that are left. Assumes nothing.
 use native.Mathlib.Omega.{arith}
 use borrow.Author.Tests.{eq-eqb, ne_eqb}
 use mathlib.Core.Path.{sym, ◌∙◌, refl}

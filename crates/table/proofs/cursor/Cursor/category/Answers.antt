@@ -1,3 +1,4 @@
+-- `Cursor::category` meets its contract: the limits are those that were read. Assumes nothing.
 use Rattle.table.proofs.cursor.Cursor.category.Goals as goal
 
 pub returns : goal.returns

@@ -1,3 +1,4 @@
+-- `Cursor::dimensions` meets its contract: what `times` says of all categories, it says of those that are left. Assumes nothing.
 use native.Mathlib.Omega.{arith}
 use mathlib.Core.Path.{sym, ◌∙◌}
 use Rattle.fields.proofs.Laws.{knew, none_left, turn_on, turn-out}
@@ -5,7 +6,7 @@ use Rattle.table.specs.Views.{step_of}
 use Rattle.table.proofs.cursor.Cursor.dimensions.Goals as goal
 
 pub returns-in_default : goal.returns-in_default
-returns-in_default c =     rw c.in_default.is
+returns-in_default c = rw c.in_default.is
     (sym (c.loop-left.invariant ∙ turn-out _ _ _ _ c.loop-left-test.true (knew step_of c.dimension-s.ensures c.in_default.is)))
 
 pub loop-left-smaller : goal.loop-left-smaller

@@ -1,3 +1,4 @@
+-- `Cursor::limited` meets its contract: a byte that was read, and whether it lies outside the limits. Assumes nothing.
 use Rattle.fields.proofs.Laws.{knew, told}
 use Rattle.meaning.specs.Table.{limited}
 use Rattle.table.specs.Views.{field_of}

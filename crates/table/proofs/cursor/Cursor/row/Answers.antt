@@ -1,3 +1,4 @@
+-- `Cursor::row` meets its contract: a length that was read, at most 16, and then the row's symbols. Assumes nothing.
 use borrow.Author.Tests.{lt-ltb, le-ltb}
 use Rattle.fields.proofs.Laws.{knew}
 use Rattle.meaning.specs.Table.{row}

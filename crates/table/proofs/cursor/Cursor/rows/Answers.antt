@@ -1,3 +1,4 @@
+-- `Cursor::rows` meets its contract: what `times` says of all rows, it says of those that are left; the marks stay three by three. Assumes nothing.
 use native.Mathlib.Omega.{arith}
 use mathlib.Core.Path.{sym, ◌∙◌, refl}
 use Rattle.fields.proofs.Laws.{none_left, turn_on, turn-out, knew-with}

@@ -1,3 +1,4 @@
+-- `Cursor::rule` meets its contract: the head, and then the body of the rule that it begins. Assumes nothing.
 use Rattle.fields.proofs.Laws.{knew}
 use Rattle.meaning.specs.Table.{rule}
 use Rattle.table.specs.Views.{step_of}

@@ -1,3 +1,4 @@
+-- `Cursor::rule_body` meets its contract: the daughters, the rows, and that no constituent is left unused. Assumes nothing.
 use Rattle.fields.proofs.Laws.{knew, told, knew-with}
 use Rattle.meaning.specs.Table.{rule_body}
 use Rattle.table.specs.Views.{step_of, step_with}

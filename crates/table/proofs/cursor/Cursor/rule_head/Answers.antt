@@ -1,3 +1,4 @@
+-- `Cursor::rule_head` meets its contract: a function number not used before, then the category and the rank. Assumes nothing.
 use borrow.Author.Tests.{eq-eqb, ne_eqb}
 use Rattle.fields.proofs.Laws.{knew, told}
 use Rattle.meaning.specs.Table.{rule_head}

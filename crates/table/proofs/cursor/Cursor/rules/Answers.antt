@@ -1,4 +1,4 @@
-use borrow.Author.Rules.{rules}
+-- `Cursor::rules` meets its contract: what `times` says of all rules, it says of those from n on, after the numbers seen before. Assumes nothing.
 use native.Mathlib.Omega.{arith}
 use mathlib.Core.Path.{◌≡◌, ◌∙◌, refl}
 use Prim.Native.Nat.{◌+◌, ◌-◌}
@@ -11,7 +11,8 @@ use Rattle.table.proofs.cursor.Cursor.rules.Goals as goal
 
 pub loop-n-init : goal.loop-n-init
 unfolding firsts
-loop-n-init c = let k = c.args.count in let e : k - 0 ≡ k = omega arith in (rw e, (omega arith, refl))
+loop-n-init c =
+    let k = c.args.count in let e : k - 0 ≡ k = omega arith in (rw e, (omega arith, refl))
 
 pub rule-s-requires : goal.rule-s-requires
 rule-s-requires c = record {
@@ -36,7 +37,8 @@ pub loop-n-smaller : goal.loop-n-smaller
 loop-n-smaller c = omega arith
 
 pub loop-n-preserved : goal.loop-n-preserved
-loop-n-preserved c =     let n = c.loop-n.n in
+loop-n-preserved c =
+    let n = c.loop-n.n in
     let k = c.args.count in
     let e : k - (n + 1) ≡ k - n - 1 = omega arith in (
       rw (e, firsts-set n c.number_at.result c.loop-n.seen (omega arith), c.number_at.ensures)

@@ -1,3 +1,4 @@
+-- `Cursor::symbol` meets its contract: a word where the kind is 0, and else a constituent of a daughter. Assumes nothing.
 use native.Mathlib.Omega.{arith}
 use borrow.Author.Tests.{eq-eqb, ne_eqb}
 use Prim.Native.Nat.{◌≤◌}
@@ -8,7 +9,8 @@ use Rattle.meaning.proofs.Fields.{symbol-there}
 use Rattle.table.proofs.cursor.Cursor.symbol.Goals as goal
 
 pub overflow_add-second : goal.overflow_add-second
-overflow_add-second c =     let a = c.args in
+overflow_add-second c =
+    let a = c.args in
     let h = symbol-there a.table.now a.self.at _ (knew symbol_of c.symbol_field.ensures c.in-Three.is) in
     omega arith
 
@@ -27,14 +29,15 @@ returns-then-kind-eq0 c = record {
 }
 
 pub part-requires : goal.part-requires
-part-requires c = let a = c.args in
+part-requires c =
+    let a = c.args in
     let h = symbol-there a.table.now a.self.at _ (knew symbol_of c.symbol_field.ensures c.in-Three.is) in
     let k : 1 ≤ c.in-Three.kind = omega arith in
     record {
-    small = c.requires.small;
-    le_kind = (k, omega arith);
-    square = c.requires.square;
-  }
+      small = c.requires.small;
+      le_kind = (k, omega arith);
+      square = c.requires.square;
+    }
 
 pub returns-in-Fewer : goal.returns-in-Fewer
 unfolding symbol word

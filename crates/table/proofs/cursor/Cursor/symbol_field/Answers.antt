@@ -1,3 +1,4 @@
+-- `Cursor::symbol_field` meets its contract: where the end does not cut the symbol, its kind, its number and the place after it are read. Assumes nothing.
 use native.Mathlib.Omega.{arith}
 use borrow.Author.Tests.{ltb-false}
 use Prim.Native.Nat.{◌+◌, ◌≤◌}
@@ -11,19 +12,21 @@ unfolding symbol_field
 returns-then-cut c = simp (told c.cut.ensures c.if-cut.true)
 
 pub overflow_add-second : goal.overflow_add-second
-overflow_add-second c =     let a = c.args in
+overflow_add-second c =
+    let a = c.args in
     let h : a.self.at + 3 ≤ length a.table.now = ltb-false _ _ (told c.cut.ensures c.if-cut.false) in
     omega arith
 
 pub overflow_add-next : goal.overflow_add-next
-overflow_add-next c =     let a = c.args in
+overflow_add-next c =
+    let a = c.args in
     let h : a.self.at + 3 ≤ length a.table.now = ltb-false _ _ (told c.cut.ensures c.if-cut.false) in
     omega arith
 
 pub returns : goal.returns
 unfolding symbol_field
-returns c =     simp (
-      told c.cut.ensures c.if-cut.false,
-      c.byte_at-kind.ensures.0,
-      c.number_at-n.ensures,
-    )
+returns c = simp (
+  told c.cut.ensures c.if-cut.false,
+  c.byte_at-kind.ensures.0,
+  c.number_at-n.ensures,
+)

@@ -1,5 +1,5 @@
 -- The words of a sentence: the check of each, and a slice into which they are written from the left.
-use Prim.Native.Nat.{ℕ, ◌+◌, ◌*◌, ◌-◌, ◌/◌, ◌<◌, min}
+use Prim.Native.Nat.{ℕ, ◌+◌, ◌*◌, ◌/◌, ◌<◌, min}
 use mathlib.Core.Path.{◌≡◌, refl}
 use mathlib.Core.List.{List, ◌++◌, append-nil}
 use native.Mathlib.Omega.{arith}

@@ -10,12 +10,34 @@ returns-then-outside c = simp (← c.byte_at-categories.ensures.0, told c.outsid
 
 pub returns-then-outside-2 : goal.returns-then-outside-2
 unfolding limits
-returns-then-outside-2 c = simp (← c.byte_at-categories.ensures.0, told c.outside.ensures c.if-outside.false, ← c.byte_at.ensures.0, told c.outside-2.ensures c.if-outside-2.true)
+returns-then-outside-2 c =
+    simp (
+      ← c.byte_at-categories.ensures.0,
+      told c.outside.ensures c.if-outside.false,
+      ← c.byte_at.ensures.0,
+      told c.outside-2.ensures c.if-outside-2.true,
+    )
 
 pub returns-then-number_at-gt256 : goal.returns-then-number_at-gt256
 unfolding limits
-returns-then-number_at-gt256 c = simp (← c.byte_at-categories.ensures.0, told c.outside.ensures c.if-outside.false, ← c.byte_at.ensures.0, told c.outside-2.ensures c.if-outside-2.false, ← c.number_at.ensures, lt-ltb _ _ c.if-number_at-gt256.true)
+returns-then-number_at-gt256 c =
+    simp (
+      ← c.byte_at-categories.ensures.0,
+      told c.outside.ensures c.if-outside.false,
+      ← c.byte_at.ensures.0,
+      told c.outside-2.ensures c.if-outside-2.false,
+      ← c.number_at.ensures,
+      lt-ltb _ _ c.if-number_at-gt256.true,
+    )
 
 pub returns : goal.returns
 unfolding limits
-returns c = simp (← c.byte_at-categories.ensures.0, told c.outside.ensures c.if-outside.false, ← c.byte_at.ensures.0, told c.outside-2.ensures c.if-outside-2.false, ← c.number_at.ensures, le-ltb _ _ c.if-number_at-gt256.false)
+returns c =
+    simp (
+      ← c.byte_at-categories.ensures.0,
+      told c.outside.ensures c.if-outside.false,
+      ← c.byte_at.ensures.0,
+      told c.outside-2.ensures c.if-outside-2.false,
+      ← c.number_at.ensures,
+      le-ltb _ _ c.if-number_at-gt256.false,
+    )

@@ -24,13 +24,18 @@ unused_of-requires c =
 
 pub returns-then-unused_of : goal.returns-then-unused_of
 unfolding missing
-returns-then-unused_of c = sym (c.loop-left.invariant.0 ∙ any_out _ _ c.loop-left-test.true (let a = c.args in missing-turn a.table.now a.rule _ _ _ (used_of a.used.now) _ c.loop-left-test.true c.daughter_dimension-dim.ensures c.size.ensures c.unused_of.ensures ∙ c.if-unused_of.true))
+returns-then-unused_of c = sym (c.loop-left.invariant.0 ∙ any_out _ _ c.loop-left-test.true (let a =
+    c.args in missing-turn a.table.now a.rule _ _ _ (used_of a.used.now) _ c.loop-left-test.true c.daughter_dimension-dim.ensures c.size.ensures c.unused_of.ensures ∙ c.if-unused_of.true))
 
 pub loop-left-smaller : goal.loop-left-smaller
 loop-left-smaller c = omega arith
 
 pub loop-left-preserved : goal.loop-left-preserved
-loop-left-preserved c = (c.loop-left.invariant.0 ∙ any-on _ _ c.loop-left-test.true (let a = c.args in missing-turn a.table.now a.rule _ _ _ (used_of a.used.now) _ c.loop-left-test.true c.daughter_dimension-dim.ensures c.size.ensures c.unused_of.ensures ∙ c.if-unused_of.false), omega arith)
+loop-left-preserved c = (
+  c.loop-left.invariant.0 ∙ any-on _ _ c.loop-left-test.true (let a =
+      c.args in missing-turn a.table.now a.rule _ _ _ (used_of a.used.now) _ c.loop-left-test.true c.daughter_dimension-dim.ensures c.size.ensures c.unused_of.ensures ∙ c.if-unused_of.false),
+  omega arith,
+)
 
 pub returns : goal.returns
 unfolding missing

@@ -16,7 +16,9 @@ row-s-requires c = record {
 
 pub returns-in_default : goal.returns-in_default
 returns-in_default c = record {
-  used_after = rw c.in_default.is (sym (c.loop-left.invariant.0 ∙ turn-out _ _ _ _ c.loop-left-test.true (knew-with step_with _ c.row-s.ensures.used_after c.in_default.is)));
+  used_after =
+      rw c.in_default.is
+      (sym (c.loop-left.invariant.0 ∙ turn-out _ _ _ _ c.loop-left-test.true (knew-with step_with _ c.row-s.ensures.used_after c.in_default.is)));
   square_2 = c.row-s.ensures.square_2;
 }
 

@@ -19,8 +19,20 @@ returns-in-Cut c = simp (knew field_of c.number.ensures c.in-Cut.is)
 
 pub returns-in-Refused : goal.returns-in-Refused
 unfolding rule_head
-returns-in-Refused c = simp (knew field_of c.number.ensures c.in-Read.is, ne_eqb _ _ c.if-f-eq0.false, told c.seen_before.ensures c.if-seen_before.false, knew step_of c.category.ensures c.in-Refused.is)
+returns-in-Refused c =
+    simp (
+      knew field_of c.number.ensures c.in-Read.is,
+      ne_eqb _ _ c.if-f-eq0.false,
+      told c.seen_before.ensures c.if-seen_before.false,
+      knew step_of c.category.ensures c.in-Refused.is,
+    )
 
 pub returns-in-Next : goal.returns-in-Next
 unfolding rule_head
-returns-in-Next c = simp (knew field_of c.number.ensures c.in-Read.is, ne_eqb _ _ c.if-f-eq0.false, told c.seen_before.ensures c.if-seen_before.false, knew step_of c.category.ensures c.in-Next.is) c.rank.ensures
+returns-in-Next c =
+    simp (
+      knew field_of c.number.ensures c.in-Read.is,
+      ne_eqb _ _ c.if-f-eq0.false,
+      told c.seen_before.ensures c.if-seen_before.false,
+      knew step_of c.category.ensures c.in-Next.is,
+    ) c.rank.ensures

@@ -49,13 +49,23 @@ returns-in-Fewer c = record {
 pub returns-in-Invalid : goal.returns-in-Invalid
 unfolding symbol word
 returns-in-Invalid c = record {
-  used_after = simp (knew symbol_of c.symbol_field.ensures c.in-Three.is, ne_eqb _ _ c.if-kind-eq0.false, knew-with verdict_with _ c.part.ensures.used_after c.in-Invalid.is);
+  used_after =
+      simp (
+        knew symbol_of c.symbol_field.ensures c.in-Three.is,
+        ne_eqb _ _ c.if-kind-eq0.false,
+        knew-with verdict_with _ c.part.ensures.used_after c.in-Invalid.is,
+      );
   square_2 = c.part.ensures.square_2;
 }
 
 pub returns-in-Valid : goal.returns-in-Valid
 unfolding symbol word
 returns-in-Valid c = record {
-  used_after = simp (knew symbol_of c.symbol_field.ensures c.in-Three.is, ne_eqb _ _ c.if-kind-eq0.false, knew-with verdict_with _ c.part.ensures.used_after c.in-Valid.is);
+  used_after =
+      simp (
+        knew symbol_of c.symbol_field.ensures c.in-Three.is,
+        ne_eqb _ _ c.if-kind-eq0.false,
+        knew-with verdict_with _ c.part.ensures.used_after c.in-Valid.is,
+      );
   square_2 = c.part.ensures.square_2;
 }

@@ -4,7 +4,8 @@ use Rattle.table.specs.Views.{used_of, Square}
 use Rattle.table.proofs.cursor.Cursor.symbols.Given as goal
 
 abbrev pub invariant-loop-left : goal.invariant-loop-left
-invariant-loop-left l = (times l.initial.left (symbol l.table l.rule) (l.initial.c.at, used_of l.initial.used) ≡ times l.left (symbol l.table l.rule) (l.c.at, used_of l.used)) × Square l.used
+invariant-loop-left l =
+    (times l.initial.left (symbol l.table l.rule) (l.initial.c.at, used_of l.initial.used) ≡ times l.left (symbol l.table l.rule) (l.c.at, used_of l.used)) × Square l.used
 
 abbrev pub decreases-loop-left : goal.decreases-loop-left
 decreases-loop-left l = l.left

@@ -3,7 +3,7 @@ use mathlib.Core.Path.{◌≡◌, refl, sym, ap, ◌∙◌, subst}
 use mathlib.Core.Logic.{◌⊎◌, inl, inr}
 use mathlib.Core.Bool.{Bool, true, false}
 use mathlib.Core.List.{List}
-use Prim.Native.Nat.{ℕ, zero, suc, ◌+◌, ◌*◌, ◌-◌, ◌≤◌, ◌<◌}
+use Prim.Native.Nat.{ℕ, suc, ◌+◌, ◌*◌, ◌-◌, ◌≤◌, ◌<◌}
 use native.Mathlib.Omega.{arith}
 use lib.Dec.{T}
 use lib.ListN.{length, get_or}
@@ -16,7 +16,7 @@ use Rattle.reach.specs.Bits.{Bit, Single, Both, Next, Lent}
 use Rattle.reach.specs.declared.places.Places.{Places}
 use Rattle.reach.specs.Reach.{Known, empty, words, Upward, Turns, WordAt, Occurs, After, OneWord, Exactly, From, Union, MayBe, beginning, passed}
 use Rattle.reach.proofs.Digits.{no-bit}
-use Rattle.reach.proofs.Turning.{span, Source, from_place, from_start, stays, Bits, turns}
+use Rattle.reach.proofs.Turning.{span, Source, from_place, from_start, stays, turns}
 use Rattle.reach.proofs.Sets.{true-not}
 
 abbrev to_of : Range → ℕ

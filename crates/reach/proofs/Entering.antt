@@ -10,7 +10,7 @@ use mathlib.Core.List.Memᴰ.{append_right as mem-right}
 use mathlib.Core.List.Memᴰ.{eq_of_singleton as mem-one}
 use mathlib.Core.List.Memᴰ.{head as here}
 use Rattle.store.proofs.Sets.{next, take_all}
-use Prim.Native.Nat.{ℕ, zero, suc, ◌+◌, ◌*◌, ◌-◌, ◌≤◌, ◌<◌}
+use Prim.Native.Nat.{ℕ, ◌+◌, ◌*◌, ◌-◌, ◌≤◌, ◌<◌}
 use native.Mathlib.Omega.{arith}
 use lib.Dec.{eqb}
 use lib.ListN.{length, get_or, set, length-set, take}
@@ -18,7 +18,7 @@ use lib.Seq.{get_or-set_same, get_or-set_other}
 use borrow.Author.Tests.{eqb-true, eqb-false}
 use Rattle.reach.specs.Bits.{Bit, Single, Both}
 use Rattle.reach.specs.declared.known.First.{First}
-use Rattle.reach.specs.Mirror.{item_at, IsFirst, Enters, Marks, with_words, with_none, Entered, Room}
+use Rattle.reach.specs.Mirror.{IsFirst, Marks, with_words, with_none, Entered}
 
 abbrev One : ℕ → ℕ → Type 0
 One c d = d ≡ c

@@ -1,7 +1,6 @@
 -- Rows are independent: where all daughters of several parts are chosen, a rule gives an item from them and some known daughters of one
 -- part exactly where each row, by itself, can have the item's range (`together`, `alone`).
 use mathlib.Core.Path.{◌≡◌, refl, sym, ap, ◌∙◌, subst}
-use mathlib.Core.Logic.{inl, inr}
 use mathlib.Core.List.{List, [], ◌∷◌}
 use Prim.Native.Nat.{ℕ, zero, suc, ◌≤◌, ◌<◌}
 use native.Mathlib.Decide.{dec_lt}
@@ -10,11 +9,11 @@ use lib.ListN.{length, get_or, length-map, get_or-map, get_or-eq_default}
 use lib.Seq.{ext_get_or}
 use Rattle.meaning.specs.Range.{Range, none, IsRange, Item, nothing, at}
 use Rattle.meaning.specs.Grammar.{Symbol, word, part, Rule, Grammar, dimension}
-use Rattle.meaning.specs.Giving.{Run, done, more, Stands, held, Gives, categories}
+use Rattle.meaning.specs.Giving.{Run, done, more, Stands, held, categories}
 use Rattle.meaning.specs.Valid.{symbol, Linear, Valid}
 use Rattle.meaning.proofs.Laws.{counts_all}
 use Rattle.reach.specs.Reach.{Placed, any, chosen, May, Reach}
-use Rattle.reach.specs.Apart.{single, Partly, Fills, GivesSome}
+use Rattle.reach.specs.Apart.{single, Partly, GivesSome}
 
 -- where the symbol j stands in a run
 module _ {P : Symbol → Range → Type 0} where

@@ -5,16 +5,15 @@ use mathlib.Core.Logic.{◌⊎◌, inl, inr}
 use mathlib.Core.List.{List, [], ◌∷◌, Memᴰ as Mem}
 use Prim.Native.Nat.{ℕ, zero, suc, ◌+◌, ◌*◌, ◌-◌, ◌≤◌, ◌<◌}
 use native.Mathlib.Omega.{arith}
-use lib.ListN.{length, get_or, length-map, get_or-map}
+use lib.ListN.{length, get_or, get_or-map}
 use Rattle.meaning.specs.Order.{Each, each_none, each_more}
 use Rattle.meaning.specs.Range.{Range, none, IsRange, Item, nothing}
 use Rattle.meaning.specs.Grammar.{Rule, Grammar, dimension}
-use Rattle.meaning.specs.Giving.{Gives, categories}
 use Rattle.meaning.proofs.Joining.{range-path}
 use Rattle.reach.specs.Bits.{Bit}
-use Rattle.reach.specs.Reach.{Known, empty, words, Upward, Fair}
+use Rattle.reach.specs.Reach.{Known, empty, words, Fair}
 use Rattle.reach.specs.Mirror.{item_at, Marks, with_words, with_none, Entered, Blank, Sensible, HasFirst}
-use Rattle.reach.specs.Apart.{single, Partly, Fills, GivesSome, GivesFrom}
+use Rattle.reach.specs.Apart.{single, Partly, GivesSome, GivesFrom}
 use Rattle.reach.proofs.Digits.{no-bit}
 
 abbrev to_of : Range → ℕ

@@ -1,12 +1,11 @@
 -- The ranges of a row's sets one after another, by their numbers; and that they are the ranges that the row can have.
-use mathlib.Core.Path.{◌≡◌, refl, sym, ap, ◌∙◌, subst}
+use mathlib.Core.Path.{◌≡◌, refl, sym, ap, subst}
 use mathlib.Core.Logic.{◌⊎◌, inl, inr, ⊎_elim}
-use mathlib.Core.Bool.{Bool, true, false}
 use mathlib.Core.Option.{Option, none as apart, some as just}
 use mathlib.Core.List.{List}
-use Prim.Native.Nat.{ℕ, zero, suc, ◌+◌, ◌*◌, ◌-◌, ◌/◌, ◌%◌, ◌^◌, ◌≤◌, ◌<◌}
+use Prim.Native.Nat.{ℕ, suc, ◌+◌, ◌*◌, ◌-◌, ◌/◌, ◌%◌, ◌^◌, ◌≤◌, ◌<◌}
 use native.Mathlib.Omega.{arith}
-use lib.ListN.{length, get_or}
+use lib.ListN.{get_or}
 use Rattle.meaning.specs.Range.{Range, none}
 use Rattle.meaning.specs.Grammar.{Symbol}
 use Rattle.meaning.specs.Giving.{Run}
@@ -17,7 +16,6 @@ use Rattle.reach.specs.Bits.{Bit}
 use Rattle.reach.specs.Reach.{RowSet, InWords, InSets, in_none, in_words, number_of, FirstBit}
 use Rattle.reach.proofs.Digits.{no-bit, bit-low}
 use Rattle.reach.proofs.Turning.{span}
-use Rattle.reach.proofs.Sets.{true-not}
 
 -- the first bit
 pub record Unset (set from i : ℕ) : Type 0 where

@@ -1,11 +1,10 @@
 -- A row as turns over sets of places: each symbol's turn, and the loop over the row.
 use mathlib.Core.Path.{◌≡◌, refl, sym, ap, ◌∙◌, subst}
 use mathlib.Core.Logic.{◌⊎◌, inl, inr}
-use mathlib.Core.Bool.{true, false}
+use mathlib.Core.Bool.{true}
 use mathlib.Core.List.{List, [], ◌∷◌}
-use Prim.Native.Nat.{ℕ, zero, suc, ◌+◌, ◌*◌, ◌-◌, ◌≤◌, ◌<◌}
+use Prim.Native.Nat.{ℕ, zero, suc, ◌+◌, ◌-◌, ◌≤◌, ◌<◌}
 use native.Mathlib.Omega.{arith}
-use lib.ListN.{length, get_or}
 use borrow.Author.Tests.{eq-eqb, ne_eqb}
 use Rattle.meaning.specs.Range.{Range, none, IsRange, Spans}
 use Rattle.meaning.specs.Grammar.{Symbol, word, part}
@@ -14,7 +13,7 @@ use Rattle.meaning.specs.Table.{byte, number}
 use Rattle.meaning.specs.Decode.{several, symbol_at, row_at}
 use Rattle.meaning.proofs.Joining.{Join, left, right, next, range-path, none-join, join→joined, joined→join}
 use Rattle.meaning.proofs.Spans.{measure, one_word, word_at}
-use Rattle.phrase.proofs.Joins.{Proper, ends-none, Fold, stop, onto, run→fold, fold→run}
+use Rattle.phrase.proofs.Joins.{Proper, Fold, stop, onto, run→fold, fold→run}
 use Rattle.phrase.proofs.Turns.{left_of, whole_row}
 use Rattle.reach.specs.Bits.{Bit}
 use Rattle.reach.specs.declared.places.Places.{Places}

@@ -2,8 +2,8 @@
 use mathlib.Core.Path.{◌≡◌, refl, sym, ap, ◌∙◌, subst}
 use mathlib.Core.Logic.{◌⊎◌, inl, inr}
 use mathlib.Core.Bool.{Bool, true, false}
-use mathlib.Core.List.{List, [], ◌∷◌}
-use Prim.Native.Nat.{ℕ, zero, suc, ◌+◌, ◌-◌, ◌≤◌, ◌<◌}
+use mathlib.Core.List.{List}
+use Prim.Native.Nat.{ℕ, suc, ◌+◌, ◌≤◌, ◌<◌}
 use native.Mathlib.Omega.{arith}
 use lib.Dec.{ltb}
 use lib.ListN.{length, get_or, set, length-set}
@@ -12,11 +12,11 @@ use borrow.Author.Tests.{ltb-true, ltb-false}
 use Rattle.meaning.specs.Range.{Range, none, IsRange}
 use Rattle.meaning.specs.Grammar.{Symbol, word, part}
 use Rattle.meaning.specs.Giving.{Run, done, more}
-use Rattle.meaning.proofs.Joining.{Join, left, right, next, range-path, meet_left, meet_right, joined→join}
+use Rattle.meaning.proofs.Joining.{Join, left, right, next, meet_left, meet_right, joined→join}
 use Rattle.meaning.proofs.Spans.{measure}
 use Rattle.reach.specs.Bits.{Bit}
 use Rattle.reach.specs.declared.places.Places.{Places}
-use Rattle.reach.specs.Reach.{Placed, any, chosen, May, Holds, unmoved, moved, Reaches, Digit, Ended, RowSet}
+use Rattle.reach.specs.Reach.{any, chosen, May, Holds, unmoved, moved, Reaches, Digit, Ended, RowSet}
 use Rattle.reach.proofs.Turning.{span}
 
 abbrev to_of : Range → ℕ

@@ -1,0 +1,28 @@
+-- `reach::places::union_of` meets its contract. The invariant: the set and what is left are the union.
+use native.Mathlib.Omega.{arith}
+use Rattle.reach.proofs.Sets.{gone-none, gone-zero, gone-end, gone-on}
+use Rattle.reach.proofs.places.union_of.Goals as goal
+
+pub loop-p-init : goal.loop-p-init
+loop-p-init c = gone-none _ _ _
+
+pub returns-then-rest-eq0 : goal.returns-then-rest-eq0
+returns-then-rest-eq0 c = gone-zero _ _ _ c.loop-p.invariant c.if-rest-eq0.true
+
+pub overflow_add-at : goal.overflow_add-at
+overflow_add-at c = omega arith
+
+pub overflow_add-p : goal.overflow_add-p
+overflow_add-p c = omega arith
+
+pub loop-p-smaller : goal.loop-p-smaller
+loop-p-smaller c = omega arith
+
+pub loop-p-preserved : goal.loop-p-preserved
+loop-p-preserved c =
+    let loop-test = c.loop-p-test in
+    let loop = c.loop-p in
+    gone-on _ _ _ loop.invariant loop-test.true c.lent.ensures c.both-set.ensures
+
+pub returns : goal.returns
+returns c = gone-end _ _ _ c.loop-p.invariant c.loop-p-test.false

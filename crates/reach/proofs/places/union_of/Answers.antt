@@ -20,9 +20,8 @@ loop-p-smaller c = omega arith
 
 pub loop-p-preserved : goal.loop-p-preserved
 loop-p-preserved c =
-    let loop-test = c.loop-p-test in
     let loop = c.loop-p in
-    gone-on _ _ _ loop.invariant loop-test.true c.lent.ensures c.both-set.ensures
+    gone-on _ _ _ loop.invariant (omega arith) c.lent.ensures c.both-set.ensures
 
 pub returns : goal.returns
-returns c = gone-end _ _ _ c.loop-p.invariant c.loop-p-test.false
+returns c = gone-end _ _ _ c.loop-p.invariant (omega arith)

@@ -1,7 +1,7 @@
 -- A rule's bytes say the same wherever they stand. Where u has from q on the bytes that t has from p up to e, and the same dimensions, a rule
 -- of t that ends before e is decoded from u as the same rule (`rule-same`), and if it was read from t without a refusal so it is from u
 -- (`rule_moved`).
-use Prim.Native.Nat.{ℕ, ◌-◌, ◌≤◌}
+use Prim.Native.Nat.{ℕ, ◌≤◌}
 use mathlib.Core.Path.{◌≡◌, sym, ap, ◌∙◌}
 use mathlib.Core.Bool.{false}
 use mathlib.Core.List.{List, ◌∷◌}

@@ -1,3 +1,2 @@
 // Theorems across calls: definitions in specs/, proofs in proofs/. This crate has no function.
 #![tactic(auto)]
-

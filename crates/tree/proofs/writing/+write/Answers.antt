@@ -2,7 +2,7 @@
 use native.Mathlib.Omega.{arith}
 use Prim.Native.Nat.{◌<◌}
 use lib.ListN.{length-set}
-use Rattle.tree.specs.Writing.{rank, function_at}
+use Rattle.tree.specs.Writing.{rank, function_at, height_at}
 use Rattle.tree.proofs.Laws.{none_yet}
 use Rattle.tree.proofs.Steps.{none-of-it, one-daughter, all-daughters}
 use Rattle.tree.proofs.writing.+write.Goals as goal
@@ -25,10 +25,9 @@ write-next-requires t c =
     let k = c.loop-k.k in
     let l : k < rank a.table.now (function_at a.chart.now a.at) = omega (arith, c.rank_of-daughters.ensures, c.loop-k-test.true) in
     let falls = c.requires.falling in
-    let h = c.requires.at_lt_count in (
-      rw (c.size-daughter.ensures, ← c.decreases) (falls.lower a.at k h l),
-      (falls, rw c.size-daughter.ensures (falls.below a.at k h l)),
-    )
+    let h = c.requires.at_lt_count in
+    let low : height_at a.chart.now c.size-daughter.result < height_at a.chart.now a.at = rw c.size-daughter.ensures (falls.lower a.at k h l) in
+    (omega (arith, c.decreases), (falls, rw c.size-daughter.ensures (falls.below a.at k h l)))
 
 pub loop-k-preserved : goal.loop-k-preserved
 loop-k-preserved t c =

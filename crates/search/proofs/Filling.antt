@@ -9,7 +9,7 @@ use mathlib.Core.List.Memᴰ.{not-nil as not-mem-nil}
 use mathlib.Core.List.{List, [], ◌∷◌, Memᴰ as Mem}
 use mathlib.Core.List.Memᴰ.{head as here}
 use mathlib.Core.List.Memᴰ.{tail as there}
-use Prim.Native.Nat.{ℕ, zero, suc, ◌+◌, ◌-◌, ◌*◌, ◌/◌, ◌<◌, ◌≤◌}
+use Prim.Native.Nat.{ℕ, zero, suc, ◌+◌, ◌*◌, ◌/◌, ◌<◌, ◌≤◌}
 use native.Mathlib.Omega.{arith}
 use lib.ListN.{length, get_or, take, length-take}
 use Rattle.store.specs.Set.{place, Held, Put, placed, no_room}

@@ -6,7 +6,7 @@ use Prim.Native.Nat.{ℕ, suc, ◌<◌, ◌≤◌}
 use native.Mathlib.Omega.{arith}
 use lib.ListN.{length}
 use Rattle.meaning.specs.Order.{Each, each_none, each_more}
-use Rattle.meaning.specs.Range.{Range, IsRange, Item, at}
+use Rattle.meaning.specs.Range.{Range, IsRange, Item}
 use Rattle.meaning.specs.Grammar.{Rule, Tree, Of, of}
 use Rattle.meaning.specs.Chart.{Known, things, tallest, Made, GivenBy}
 use Rattle.meaning.specs.Table.{got, number, check_table}

@@ -1,6 +1,6 @@
 -- Rules that are equal but for their function numbers give the same items (`tried-like`), so one that is like an earlier one gives nothing
 -- new (`like-old`).
-use Prim.Native.Nat.{ℕ, ◌+◌, ◌-◌, ◌≤◌, ◌<◌}
+use Prim.Native.Nat.{ℕ, ◌+◌, ◌≤◌, ◌<◌}
 use mathlib.Core.Path.{◌≡◌, refl, sym, ap, ◌∙◌, subst}
 use mathlib.Core.Logic.{⊎_elim}
 use mathlib.Core.List.{List, [], Memᴰ as Mem}

@@ -3,12 +3,12 @@ use mathlib.Core.Path.{◌≡◌, refl, ap, sym, subst, ◌∙◌}
 use mathlib.Core.Logic.{◌⊎◌, inl, inr, ⊎_elim}
 use mathlib.Core.Option.{none as apart, some as just}
 use mathlib.Core.List.{List, [], ◌∷◌, map}
-use Prim.Native.Nat.{ℕ, zero, suc, ◌+◌, ◌-◌, ◌<◌, ◌≤◌, max}
+use Prim.Native.Nat.{ℕ, zero, suc, ◌+◌, ◌<◌, ◌≤◌, max}
 use native.Mathlib.Omega.{arith}
 use lib.ListN.{length, get_or, take, length-take}
 use lib.Seq.{ext_get_or, get_or-take}
 use Rattle.meaning.specs.Order.{Each, each_none, each_more}
-use Rattle.meaning.specs.Range.{Range, Item, at}
+use Rattle.meaning.specs.Range.{Range, Item}
 use Rattle.meaning.specs.Grammar.{Symbol}
 use Rattle.meaning.specs.Giving.{Gives, categories}
 use Rattle.meaning.specs.Chart.{Known, things, tallest}

@@ -11,7 +11,7 @@ use Rattle.meaning.specs.Range.{Item, numbers}
 use Rattle.meaning.specs.Grammar.{Grammar, Tree, node, Trees, bare, and, levels, most, spell}
 use Rattle.meaning.specs.Giving.{Makes, True, MakeAll, make_none, make_more}
 use Rattle.meaning.specs.Valid.{Valid}
-use Rattle.meaning.specs.Chart.{Known, Entry, tallest, Before, Made, GivenBy, ChartOf, item, things, item_of, items}
+use Rattle.meaning.specs.Chart.{Known, Entry, tallest, Before, Made, GivenBy, ChartOf, things, item_of, items}
 use Rattle.meaning.specs.Reading.{Over, goal}
 use Rattle.meaning.proofs.Order.{lex-irr, lex-trans, each_at, each_of, each_map, pigeonhole}
 use Rattle.meaning.proofs.Laws.{step, inverse}

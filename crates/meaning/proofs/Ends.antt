@@ -1,5 +1,5 @@
 -- A table that is not refused is the grammar that it says: each part ends where the next one is read, and the last at the table's end.
-use Prim.Native.Nat.{ℕ, zero, suc, ◌+◌, ◌-◌, ◌≤◌, ◌<◌}
+use Prim.Native.Nat.{ℕ, zero, suc, ◌+◌, ◌≤◌, ◌<◌}
 use mathlib.Core.Path.{◌≡◌, refl, sym, ap, ◌∙◌, subst}
 use mathlib.Core.Bool.{Bool, true, false, not, cond}
 use mathlib.Core.List.{List, []}
@@ -9,7 +9,7 @@ use lib.Dec.{ltb, eqb}
 use borrow.Author.Tests.{ltb-false, eqb-true, eqb-false, not-false}
 use Rattle.meaning.specs.declared.Refusal.{Refusal}
 use Rattle.meaning.specs.declared.Refusal.TheVariants.{Range, Category}
-use Rattle.meaning.specs.Table.{Got, got, refused, ◌>>◌, refuse_if, times, member, byte, number, byte_field, number_field, symbol_field, dimension, category, rank}
+use Rattle.meaning.specs.Table.{Got, got, refused, ◌>>◌, refuse_if, times, member, byte, number, byte_field, number_field, symbol_field, dimension, category}
 use Rattle.meaning.specs.Table.{Used, unused, word, part, symbol, row, missing, rank_of, category_of, daughter_of, dimension_of, outside, rule_head, rule_body, rule, rules, header, check_table}
 use Rattle.meaning.specs.Decode.{past, row_end, rows_of, rule_end, first_rule}
 use Rattle.meaning.specs.Accepted.{FineRow, FineSymbol, Means}

@@ -10,7 +10,7 @@ use borrow.Author.Tests.{ltb-false}
 use Rattle.meaning.specs.declared.Refusal.{Refusal}
 use Rattle.meaning.specs.declared.Refusal.TheVariants.{Range}
 use Rattle.meaning.specs.Table.{Got, got, refused, ◌>>=◌, ◌>>◌, refuse_if, times, member, outside, byte, number, byte_field, number_field, symbol_field}
-use Rattle.meaning.specs.Table.{limited, dimension, category, rank, rule_head, limits, header}
+use Rattle.meaning.specs.Table.{limited, dimension, category, rule_head, limits, header}
 use Rattle.meaning.specs.Accepted.{Dims, Headed}
 
 -- a test that was passed failed, and the rest was read

@@ -14,7 +14,7 @@ use Prim.Native.Nat.{ℕ, zero, suc, ◌≤◌}
 use native.Mathlib.Omega.{arith}
 use lib.Dec.{T, eqb, leb, ltb, eqb→eq, eqb_refl, ltb→lt, lt→ltb, leb→le, le→leb}
 use lib.ListN.{length, get_or, get_elem?, get_or-eq_default}
-use Rattle.meaning.specs.Range.{Range, none, IsRange, Spans, Item, at, is_none, joined}
+use Rattle.meaning.specs.Range.{Range, none, IsRange, Spans, Item, is_none, joined}
 use Rattle.meaning.specs.Grammar.{Symbol, word, part, Rule, Grammar}
 use Rattle.meaning.specs.Giving.{Run, done, more, Stands, held, Gives, categories}
 use Rattle.meaning.specs.Chart.{Known, things}

@@ -10,7 +10,7 @@ use Rattle.meaning.specs.Order.{Each}
 use Rattle.meaning.specs.Range.{Item}
 use Rattle.meaning.specs.Grammar.{Grammar, Tree, node, Trees, bare, and, levels, most, functions, preorder}
 use Rattle.meaning.specs.Giving.{Makes, MakeAll, make_none, make_more}
-use Rattle.meaning.specs.Chart.{Known, Entry, tallest, Way, GivenBy, item, things, knowns}
+use Rattle.meaning.specs.Chart.{Known, Entry, tallest, Way, GivenBy, things, knowns}
 use Rattle.meaning.specs.TreeWriting.{blank, told}
 use Rattle.meaning.proofs.Order.{each_at}
 use Rattle.meaning.proofs.Laws.{step}

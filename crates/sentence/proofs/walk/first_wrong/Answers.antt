@@ -61,7 +61,7 @@ loop-i-preserved c =
 pub returns-then-wanted-gt0 : goal.returns-then-wanted-gt0
 returns-then-wanted-gt0 c =
     let l = c.loop-i in
-    sym (l.invariant.0 ∙ walk-short _ _ _ _ _ c.if-wanted-gt0.true (omega (arith, l.invariant.2, c.loop-i-test.false)))
+    sym (l.invariant.0 ∙ walk-short _ _ _ _ _ (omega (arith, c.if-wanted-gt0.true)) (omega (arith, l.invariant.2, c.loop-i-test.false)))
 
 pub returns : goal.returns
 returns c = sym (c.loop-i.invariant.0 ∙ walk-whole _ _ _ _ _ (omega arith) c.loop-i-test.false)

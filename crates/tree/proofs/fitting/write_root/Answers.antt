@@ -8,7 +8,7 @@ use Rattle.tree.proofs.Laws.{front-within, fitted-same}
 use Rattle.tree.proofs.fitting.write_root.Goals as goal
 
 pub returns-then-count-root : goal.returns-then-count-root
-returns-then-count-root c = outside c.if-count-root.true refl
+returns-then-count-root c = outside (omega (arith, c.if-count-root.true)) refl
 
 pub slice_bounds-fit-end : goal.slice_bounds-fit-end
 slice_bounds-fit-end c = let h : c.smaller-room.result ≤ 255 = omega (arith, c.smaller-room.ensures) in

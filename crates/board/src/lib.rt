@@ -6,7 +6,7 @@ ghost use Rattle.meaning.specs.Reading.{Read};
 ghost use Rattle.meaning.specs.TreeWriting.{TreeWritten};
 ghost use Rattle.meaning.specs.SentenceWriting.{SentenceWritten};
 
-use crate::numbers::{hand_back, of_read, of_sentence, of_tree};
+use crate::numbers::Numbers;
 
 mod numbers;
 
@@ -20,8 +20,7 @@ pub fn mcg_read(
 )
     ensures { Read table.now words.now allowance chart.old (get_or answer.new 0 0) (get_or answer.new 1 0) (get_or answer.new 2 0) chart.new }
 {
-    let a = reader::read(table, words, allowance, chart);
-    hand_back(of_read(a), answer);
+    Numbers::from(reader::read(table, words, allowance, chart)).hand_back(answer);
 }
 
 // The tree writer.
@@ -36,14 +35,12 @@ pub fn mcg_tree(
 )
     ensures { TreeWritten table.now words.now chart.now count root list.old (get_or answer.new 0 0) (get_or answer.new 1 0) (get_or answer.new 2 0) list.new }
 {
-    let a = tree::tree(table, words, chart, count, root, list);
-    hand_back(of_tree(a), answer);
+    Numbers::from(tree::tree(table, words, chart, count, root, list)).hand_back(answer);
 }
 
 // The sentence writer.
 pub fn mcg_sentence(table: &[u8], list: &[u16], text: &mut [u16], answer: &mut [u64; 3])
     ensures { SentenceWritten table.now list.now text.old (get_or answer.new 0 0) (get_or answer.new 1 0) (get_or answer.new 2 0) text.new }
 {
-    let a = sentence::sentence(table, list, text);
-    hand_back(of_sentence(a), answer);
+    Numbers::from(sentence::sentence(table, list, text)).hand_back(answer);
 }

@@ -6,11 +6,12 @@ ghost use Rattle.sentence.specs.Answers as said;
 ghost use Rattle.tree.specs.Answers as grown;
 
 use meaning::{Refusal, code_of, place_of};
-use reader::Answer as ReadAnswer;
-use sentence::Answer as SentenceAnswer;
-use tree::TreeAnswer;
+use reader::{ReadRefusal, Reading};
+use sentence::SentenceRefusal;
+use tree::TreeRefusal;
 
 // Code, place and count.
+// Kept: the code is a number, since C is handed it (`mcg_read`, `mcg_tree`, `mcg_sentence`).
 #[derive(Clone, Copy)]
 pub(crate) struct Numbers {
     code: u64,
@@ -18,97 +19,70 @@ pub(crate) struct Numbers {
     count: usize,
 }
 
-// A place or a count as it is handed back.
-fn wide(x: usize) -> u64
-    ensures { result ≡ x }
-{
-    x as u64
-}
+impl Numbers {
+    fn new(code: u64, place: usize, count: usize) -> Numbers
+        ensures { (result.code ≡ code) × (result.place ≡ place) × (result.count ≡ count) }
+    {
+        Numbers { code, place, count }
+    }
 
-// Writes the three numbers.
-pub(crate) fn hand_back(n: Numbers, answer: &mut [u64; 3])
-    ensures { answer.new ≡ n.code ∷ n.place ∷ n.count ∷ [] }
-{
-    let place = wide(n.place);
-    let count = wide(n.count);
-    *answer = [n.code, place, count];
-}
-
-// A refusal's numbers: its count is 0.
-fn refused(code: u64, place: usize) -> Numbers
-    ensures { (result.code ≡ code) × (result.place ≡ place) × (result.count ≡ 0) }
-{
-    Numbers {
-        code: code,
-        place: place,
-        count: 0,
+    // Writes the three numbers.
+    pub(crate) fn hand_back(self, answer: &mut [u64; 3])
+        ensures { answer.new ≡ self.code ∷ self.place ∷ self.count ∷ [] }
+    {
+        *answer = [self.code, self.place as u64, self.count as u64];
     }
 }
 
 // The numbers of a refusal of the table or the words.
-fn of_refusal(why: Refusal) -> Numbers
-    ensures { (result.code ≡ refusal.code_of why) × (result.place ≡ refusal.place_of why) × (result.count ≡ 0) }
-{
-    Numbers {
-        code: code_of(why),
-        place: place_of(why),
-        count: 0,
-    }
-}
+impl From<Refusal> for Numbers {
+    ghost from_gives = { λ why n. (n.code ≡ refusal.code_of why) × (n.place ≡ refusal.place_of why) × (n.count ≡ 0) };
 
-// The numbers of what was written: code 0, place 0.
-fn written(count: usize) -> Numbers
-    ensures { (result.code ≡ 0) × (result.place ≡ 0) × (result.count ≡ count) }
-{
-    Numbers {
-        code: 0,
-        place: 0,
-        count: count,
+    fn from(why: Refusal) -> Numbers {
+        Numbers::new(code_of(why), place_of(why), 0)
     }
 }
 
 // The reader's three numbers.
-pub(crate) fn of_read(a: ReadAnswer) -> Numbers
-    ensures { (result.code ≡ found.code_of a) × (result.place ≡ found.place_of a) × (result.count ≡ found.count_of a) }
-{
-    match a {
-        ReadAnswer::Yes(place, count) => Numbers {
-            code: 0,
-            place: place,
-            count: count,
-        },
-        ReadAnswer::No(count) => Numbers {
-            code: 1,
-            place: 0,
-            count: count,
-        },
-        ReadAnswer::Refused(why) => of_refusal(why),
-        ReadAnswer::Full(room) => refused(16, room),
-        ReadAnswer::Deep => refused(22, 0),
+impl From<Result<Reading, ReadRefusal>> for Numbers {
+    ghost from_gives = { λ a n. (n.code ≡ found.code_of a) × (n.place ≡ found.place_of a) × (n.count ≡ found.count_of a) };
+
+    fn from(a: Result<Reading, ReadRefusal>) -> Numbers {
+        match a {
+            Ok(Reading::Yes { place, count }) => Numbers::new(0, place, count),
+            Ok(Reading::No { count }) => Numbers::new(1, 0, count),
+            Err(ReadRefusal::Input(why)) => Numbers::from(why),
+            Err(ReadRefusal::Full(room)) => Numbers::new(16, room, 0),
+            Err(ReadRefusal::Deep) => Numbers::new(22, 0, 0),
+        }
     }
 }
 
 // The tree writer's three numbers.
-pub(crate) fn of_tree(a: TreeAnswer) -> Numbers
-    ensures { (result.code ≡ grown.code_of a) × (result.place ≡ grown.place_of a) × (result.count ≡ grown.count_of a) }
-{
-    match a {
-        TreeAnswer::Refused(why) => of_refusal(why),
-        TreeAnswer::Chart(record) => refused(17, record),
-        TreeAnswer::Place(root) => refused(18, root),
-        TreeAnswer::TreeRoom(room) => refused(19, room),
-        TreeAnswer::Nodes(count) => written(count),
+impl From<Result<usize, TreeRefusal>> for Numbers {
+    ghost from_gives = { λ a n. (n.code ≡ grown.code_of a) × (n.place ≡ grown.place_of a) × (n.count ≡ grown.count_of a) };
+
+    fn from(a: Result<usize, TreeRefusal>) -> Numbers {
+        match a {
+            Ok(nodes) => Numbers::new(0, 0, nodes),
+            Err(TreeRefusal::Input(why)) => Numbers::from(why),
+            Err(TreeRefusal::Chart(record)) => Numbers::new(17, record, 0),
+            Err(TreeRefusal::Place(root)) => Numbers::new(18, root, 0),
+            Err(TreeRefusal::TreeRoom(room)) => Numbers::new(19, room, 0),
+        }
     }
 }
 
 // The sentence writer's three numbers.
-pub(crate) fn of_sentence(a: SentenceAnswer) -> Numbers
-    ensures { (result.code ≡ said.code_of a) × (result.place ≡ said.place_of a) × (result.count ≡ said.count_of a) }
-{
-    match a {
-        SentenceAnswer::Refused(why) => of_refusal(why),
-        SentenceAnswer::TreeList(node) => refused(20, node),
-        SentenceAnswer::TextRoom(needed) => refused(21, needed),
-        SentenceAnswer::Words(count) => written(count),
+impl From<Result<usize, SentenceRefusal>> for Numbers {
+    ghost from_gives = { λ a n. (n.code ≡ said.code_of a) × (n.place ≡ said.place_of a) × (n.count ≡ said.count_of a) };
+
+    fn from(a: Result<usize, SentenceRefusal>) -> Numbers {
+        match a {
+            Ok(words) => Numbers::new(0, 0, words),
+            Err(SentenceRefusal::Table(why)) => Numbers::from(why),
+            Err(SentenceRefusal::TreeList(node)) => Numbers::new(20, node, 0),
+            Err(SentenceRefusal::TextRoom(needed)) => Numbers::new(21, needed, 0),
+        }
     }
 }

@@ -1,10 +1,9 @@
 -- Laws of the daughters that are chosen one by one: who is seated, and what leads to the goal.
 use mathlib.Core.Path.{◌≡◌, refl, ap, sym, subst, ◌∙◌}
-use mathlib.Core.Logic.{◌⊎◌, inl, inr}
 use mathlib.Core.List.{List}
 use Prim.Native.Nat.{ℕ, ◌+◌, ◌<◌, ◌≤◌}
 use native.Mathlib.Omega.{arith}
-use native.Mathlib.Decide.{dec_lt}
+use native.Mathlib.Decide.{ℕ_discrete, dec_lt}
 use borrow.Author.Tests.{lt-ltb, le-ltb}
 use Rattle.meaning.specs.Range.{Item}
 use Rattle.meaning.specs.Chart.{Known}
@@ -13,7 +12,7 @@ use Rattle.store.specs.Code.{known_of}
 use Rattle.phrase.specs.declared.items.Item.{Item as CodedItem}
 use Rattle.phrase.specs.declared.items.Daughters.{Daughters}
 use Rattle.phrase.specs.Phrase.{item_of, RuleOf, GivesAt}
-use Rattle.phrase.proofs.RuleThere.{fine}
+use Rattle.rules.proofs.RuleThere.{fine}
 use Rattle.hint.specs.Hint.{seat, Open, Completes, Does}
 use Rattle.search.specs.Tried.{coded, put, none_of}
 use Rattle.search.proofs.Choosing.{coded-full, put_same, put_other, put_count, fewer}
@@ -26,9 +25,6 @@ taken_in d k c l = rw (lt-ltb k d.count l)
 
 pub taken_out : (d : Daughters) (k c : ℕ) → d.count ≤ k → taken d k c ≡ d
 taken_out d k c l = rw (le-ltb k d.count l)
-
-pub taken-by : (d : Daughters) (k c : ℕ) (x : CodedItem) (r : Daughters) → k < d.count → x ≡ coded c → r ≡ put d k x → r ≡ taken d k c
-taken-by d k c x r l e q = q ∙ ap (put d k) e ∙ sym (taken_in d k c l)
 
 pub taken-count : (d : Daughters) (k c : ℕ) → (taken d k c).count ≡ d.count
 taken-count d k c = go (dec_lt k d.count)
@@ -76,11 +72,6 @@ seated-more t rule d k c n e a kind S = record {
   free = λ j g h. open-later d k j c a h (λ q. omega arith) (S.free j (omega arith) h);
 }
   where
-    apart : (j : ℕ) → Dec (j < k) → Dec (k < j) → (j ≡ k) ⊎ (j ≡ k → ⊥)
-    apart j (yes l) m = inr (λ q. omega arith)
-    apart j (no l) (yes m) = inr (λ q. omega arith)
-    apart j (no l) (no m) = inl (omega arith)
-
     kept : (j : ℕ) → j < 3 → (j ≡ k → ⊥) → Open (taken d k c) j → Open d j
     kept j h q o = ap (λ (x : CodedItem). x.category) (sym (taken-other d k j c a h q)) ∙ o
 
@@ -88,34 +79,34 @@ seated-more t rule d k c n e a kind S = record {
     full l o = coded-full c kind (ap (λ (x : CodedItem). x.category) (sym (taken-same d k c l)) ∙ o)
 
     past : (j : ℕ) → (taken d k c).count ≤ j → j < 3 → Open (taken d k c) j
-    past j g h = go (apart j (dec_lt j k) (dec_lt k j))
+    past j g h = go (ℕ_discrete j k)
       where
         m : d.count ≤ j
         m = rw (taken-count d k c) at g
 
-        go : (j ≡ k) ⊎ (j ≡ k → ⊥) → Open (taken d k c) j
-        go (inl q) = ap (λ (x : Daughters). (seat x j).category) (taken_out d k c (omega (arith, m))) ∙ S.partial.past j m h
-        go (inr q) = open-later d k j c a h q (S.partial.past j m h)
+        go : Dec (j ≡ k) → Open (taken d k c) j
+        go (yes q) = ap (λ (x : Daughters). (seat x j).category) (taken_out d k c (omega (arith, m))) ∙ S.partial.past j m h
+        go (no q) = open-later d k j c a h q (S.partial.past j m h)
 
     blank : (j : ℕ) → j < 3 → Open (taken d k c) j → (seat (taken d k c) j).height ≡ 0
-    blank j h o = go (apart j (dec_lt j k) (dec_lt k j)) (dec_lt k d.count)
+    blank j h o = go (ℕ_discrete j k) (dec_lt k d.count)
       where
-        go : (j ≡ k) ⊎ (j ≡ k → ⊥) → Dec (k < d.count) → (seat (taken d k c) j).height ≡ 0
-        go (inl q) (yes l) = absurd (full l (subst (λ (i : ℕ). Open (taken d k c) i) q o))
-        go (inl q) (no l) =
+        go : Dec (j ≡ k) → Dec (k < d.count) → (seat (taken d k c) j).height ≡ 0
+        go (yes q) (yes l) = absurd (full l (subst (λ (i : ℕ). Open (taken d k c) i) q o))
+        go (yes q) (no l) =
             let u = taken_out d k c (omega arith) in
             ap (λ (x : Daughters). (seat x j).height) u ∙ S.partial.blank j h (ap (λ (x : Daughters). (seat x j).category) (sym u) ∙ o)
-        go (inr q) l = ap (λ (x : CodedItem). x.height) (taken-other d k j c a h q) ∙ S.partial.blank j h (kept j h q o)
+        go (no q) l = ap (λ (x : CodedItem). x.height) (taken-other d k j c a h q) ∙ S.partial.blank j h (kept j h q o)
 
     chosen : (j : ℕ) → j < n → j < (taken d k c).count → Open (taken d k c) j → ⊥
-    chosen j g h o = go (apart j (dec_lt j k) (dec_lt k j))
+    chosen j g h o = go (ℕ_discrete j k)
       where
         m : j < d.count
         m = rw (taken-count d k c) at h
 
-        go : (j ≡ k) ⊎ (j ≡ k → ⊥) → ⊥
-        go (inl q) = full (omega (arith, m)) (subst (λ (i : ℕ). Open (taken d k c) i) q o)
-        go (inr q) = S.chosen j (omega arith) m (kept j (omega (arith, S.partial.few)) q o)
+        go : Dec (j ≡ k) → ⊥
+        go (yes q) = full (omega (arith, m)) (subst (λ (i : ℕ). Open (taken d k c) i) q o)
+        go (no q) = S.chosen j (omega arith) m (kept j (omega (arith, S.partial.few)) q o)
 
 -- where all are chosen, what leads to the goal is what the rule gives at the right height
 module _ {t : List ℕ} {rule : ℕ} {d : Daughters} (S : Seated t rule d 3) where

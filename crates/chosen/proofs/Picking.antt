@@ -3,7 +3,7 @@ use mathlib.Core.Path.{◌≡◌, refl, ap, sym, subst, ◌∙◌}
 use mathlib.Core.Logic.{◌⊎◌, inl, inr}
 use mathlib.Core.Option.{some}
 use mathlib.Core.List.{List, ◌∷◌, map, Memᴰ as Mem}
-use Prim.Native.Nat.{ℕ, suc, ◌%◌, ◌<◌, ◌≤◌, ◌^◌}
+use Prim.Native.Nat.{ℕ, suc, ◌<◌, ◌≤◌, ◌^◌}
 use native.Mathlib.Omega.{arith}
 use native.Mathlib.Decide.{dec_lt}
 use lib.ListN.{length, get_or, get_elem?, length-map}
@@ -26,15 +26,15 @@ use Rattle.store.proofs.Laws.{at_mem}
 use Rattle.store.proofs.Packing.{unpack-pack}
 use Rattle.phrase.specs.declared.items.Item.{Item as CodedItem}
 use Rattle.phrase.specs.Phrase.{item_of, RuleOf}
-use Rattle.phrase.proofs.RuleThere.{fine}
+use Rattle.rules.proofs.RuleThere.{fine}
 use Rattle.search.specs.Keys.{KeyMade}
 use Rattle.search.specs.Tried.{coded}
 use Rattle.search.proofs.Keys.{made-small}
 use Rattle.search.proofs.Choosing.{coded-known, coded-full}
 use Rattle.search.proofs.Ruling.{code-fine, full_size}
 use Rattle.chosen.specs.declared.Choice.{Choice}
-use Rattle.chosen.specs.declared.walk.Walked.{Walked}
-use Rattle.chosen.specs.declared.walk.Walked.TheVariants.{At, Nowhere}
+use Rattle.chosen.specs.declared.walk.Way.{Way as Found}
+use Rattle.std.specs.Prelude.{Option, Some, IsSome}
 use Rattle.chosen.specs.Walk.{Works, Passed, Looking, Walking, Finds, found, nowhere}
 use Rattle.chosen.specs.Chosen.{Choosing, Chooses}
 use Rattle.chosen.proofs.Ways.{three_of, lex-three, way-works, works-way, place₁, place₂, place₃, bounded}
@@ -138,53 +138,50 @@ module _ {t ws order K : List ℕ} {code : ℕ} (C : Choosing t ws order K code)
             let u' = subst (λ (k : ℕ). Works t ws order K (coded code) k (get_or qs 0 0) (get_or qs 1 0) (get_or qs 2 0)) i u in
             passed (get_or qs 0 0) (get_or qs 1 0) (get_or qs 2 0) u' (lex-three qs a b c (omega (arith, m, few f below)) (rw m z))
 
-    chooses : (r : Choice) → r.function ≡ number t (get_or order f 0) → r.one ≡ a % 65536 → r.two ≡ b % 65536 → r.three ≡ c % 65536 → Chooses t ws K code r
+    chooses : (r : Choice) → r.function ≡ number t (get_or order f 0) → r.one ≡ a → r.two ≡ b → r.three ≡ c → Chooses t ws K code r
     chooses r e one two three =
-        let h = bounded t ws order K (coded code) f looking (few f below) w in
         record {
           places = three_of rank a b c;
           chosen = record {
             way = rw (e, ← coded-known code) (works-way t ws order K (coded code) f looking (few f below) w);
             first = λ g qs v x. none_before g qs v (rw (← e) x);
           };
-          one = omega (arith, one, h.0, C.most) ∙ place₁ t ws order K (coded code) f looking (few f below) w;
-          two = omega (arith, two, h.1, C.most) ∙ place₂ t ws order K (coded code) f looking (few f below) w;
-          three = omega (arith, three, h.2, C.most) ∙ place₃ t ws order K (coded code) f looking (few f below) w;
+          one = one ∙ place₁ t ws order K (coded code) f looking (few f below) w;
+          two = two ∙ place₂ t ws order K (coded code) f looking (few f below) w;
+          three = three ∙ place₃ t ws order K (coded code) f looking (few f below) w;
         }
 
   -- the walk's answer
-  pub not-nowhere : {goal : CodedItem} {r : Walked} → goal ≡ coded code → Finds t ws order K goal r → r ≡ Nowhere → ⊥
-  not-nowhere e (found l w p) q = let z : ◌≡◌ {A = ℕ} 0 1 = cc in omega arith
-  not-nowhere {goal} e (nowhere n) q =
+  pub somewhere : {goal : CodedItem} {r : Option Found} → goal ≡ coded code → Finds t ws order K goal r → IsSome r
+  somewhere e (found l w p) = refl
+  somewhere {goal} e (nowhere n) =
       let (f, ds, ms, g, h) = way in
       let (ps, s) = mems-at ms in
       let (j, l, u, v, w) = met f ps (record { daughters = ds; found = s; given = g; high = h }) in
-      n j l (get_or ps 0 0, (get_or ps 1 0, (get_or ps 2 0, subst (λ (x : CodedItem). Works t ws order K x j (get_or ps 0 0) (get_or ps 1 0) (get_or ps 2 0)) (sym e) w)))
+      absurd (n j l (get_or ps 0 0, (get_or ps 1 0, (get_or ps 2 0, subst (λ (x : CodedItem). Works t ws order K x j (get_or ps 0 0) (get_or ps 1 0) (get_or ps 2 0)) (sym e) w))))
 
-  module _ {goal : CodedItem} (e : goal ≡ coded code) {f a b c : ℕ} where
-    found_at : {r : Walked} → Finds t ws order K goal r → r ≡ At f a b c → Finds t ws order K (coded code) (At f a b c)
-    found_at {r} F q = subst (λ (x : Walked). Finds t ws order K (coded code) x) q (subst (λ (g : CodedItem). Finds t ws order K g r) e F)
+  module _ {goal : CodedItem} (e : goal ≡ coded code) {w : Found} (F : Finds t ws order K goal (Some w)) where
+    found_at : Finds t ws order K (coded code) (Some w)
+    found_at = subst (λ (g : CodedItem). Finds t ws order K g (Some w)) e F
 
-    pub found_below : {r : Walked} → Finds t ws order K goal r → r ≡ At f a b c → f < length order
-    found_below F q = go (found_at F q) refl
+    pub found_below : w.function < length order
+    found_below = go found_at
       where
-        go : {r : Walked} → Finds t ws order K (coded code) r → r ≡ At f a b c → f < length order
-        go (found l w p) x = let y = at_f x in rw (← y) l
-          where
-            at_f : {f' a' b' c' : ℕ} → At f' a' b' c' ≡ At f a b c → f' ≡ f
-            at_f x = cc
-        go (nowhere n) x = let z : ◌≡◌ {A = ℕ} 0 1 = cc in absurd (omega arith)
+        go : {v : Found} → Finds t ws order K (coded code) (Some v) → v.function < length order
+        go (found l w p) = l
 
-    pub picked : {w : Walked} → Finds t ws order K goal w → w ≡ At f a b c → (r : Choice) → r.function ≡ number t (get_or order f 0)
-        → r.one ≡ a % 65536 → r.two ≡ b % 65536 → r.three ≡ c % 65536 → Chooses t ws K code r
-    picked F q r g one two three = go (found_at F q) refl
+    -- its places are those of known items, or 0
+    pub found_small : (w.one < 65536) × (w.two < 65536) × (w.three < 65536)
+    found_small = go found_at
       where
-        go : {w : Walked} → Finds t ws order K (coded code) w → w ≡ At f a b c → Chooses t ws K code r
-        go (found {f = f'} {a = a'} {b = b'} {c = c'} l w p) x =
-            let e₁ : f' ≡ f = cc in
-            let e₂ : a' ≡ a = cc in
-            let e₃ : b' ≡ b = cc in
-            let e₄ : c' ≡ c = cc in
-            let same : ℕ → ℕ = λ i. i % 65536 in
-            chooses l w p r (g ∙ ap (λ (i : ℕ). number t (get_or order i 0)) (sym e₁)) (one ∙ ap same (sym e₂)) (two ∙ ap same (sym e₃)) (three ∙ ap same (sym e₄))
-        go (nowhere n) x = let z : ◌≡◌ {A = ℕ} 0 1 = cc in absurd (omega arith)
+        go : {v : Found} → Finds t ws order K (coded code) (Some v) → (v.one < 65536) × (v.two < 65536) × (v.three < 65536)
+        go {v} (found l w p) =
+            let h = bounded t ws order K (coded code) v.function looking (few v.function l) w in
+            (omega (arith, h.0, C.most), omega (arith, h.1, C.most), omega (arith, h.2, C.most))
+
+    pub picked : (r : Choice) → r.function ≡ number t (get_or order w.function 0) → r.one ≡ w.one → r.two ≡ w.two → r.three ≡ w.three → Chooses t ws K code r
+    picked r g one two three = go found_at r g one two three
+      where
+        go : {v : Found} → Finds t ws order K (coded code) (Some v) → (r : Choice) → r.function ≡ number t (get_or order v.function 0)
+            → r.one ≡ v.one → r.two ≡ v.two → r.three ≡ v.three → Chooses t ws K code r
+        go (found l w p) r g one two three = chooses l w p r g one two three

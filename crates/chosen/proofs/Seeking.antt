@@ -1,6 +1,5 @@
 -- Where a daughter is looked for: at place 0 where there is none, nowhere where nothing leads to the goal, or at the spots of what is asked.
-use mathlib.Core.Path.{◌≡◌, refl, sym, subst}
-use mathlib.Core.Logic.{inl, inr}
+use mathlib.Core.Path.{◌≡◌, sym, subst}
 use mathlib.Core.List.{List}
 use Prim.Native.Nat.{ℕ, ◌+◌, ◌<◌, ◌≤◌, ◌^◌}
 use native.Mathlib.Omega.{arith}
@@ -14,12 +13,12 @@ use Rattle.phrase.specs.declared.items.Item.{Item as CodedItem}
 use Rattle.phrase.specs.declared.items.Daughters.{Daughters}
 use Rattle.phrase.specs.Phrase.{item_of}
 use Rattle.hint.specs.Hint.{Open, Completes, Meets, Asks}
-use Rattle.hint.specs.declared.Wants.{Wants}
 use Rattle.search.specs.declared.spots.Spots.{Spots}
 use Rattle.search.specs.Spots.{Ordered}
 use Rattle.search.specs.Tried.{coded, put, SpotsFor}
 use Rattle.search.proofs.Choosing.{seat-meets, seat-category}
 use Rattle.chosen.specs.declared.looking.Look.{Look}
+use Rattle.chosen.specs.declared.quest.Quest.{Quest}
 use Rattle.chosen.specs.Walk.{seats, taken, Leads, Seeks, Seated, Only, Looking, Onward}
 use Rattle.chosen.proofs.Leading.{taken_in, back, seated-more}
 
@@ -29,19 +28,6 @@ seats-in d k K l = rw (lt-ltb k d.count l)
 pub seats-out : (d : Daughters) (k : ℕ) (K : List ℕ) → d.count ≤ k → seats d k K ≡ 1
 seats-out d k K l = rw (le-ltb k d.count l)
 
--- nothing is asked
-abbrev anything : Wants
-anything = record { low = 0; high = 2047; one = record { from = 65; to = 65 }; two = record { from = 65; to = 65 }; three = record { from = 65; to = 65 } }
-
-pub any-wants : (c : ℕ) → Meets anything (known_of c)
-any-wants c = record {
-  low = omega arith;
-  high = omega arith;
-  one = inr (inl refl, inl refl);
-  two = inr (inl refl, inl refl);
-  three = inr (inl refl, inl refl);
-}
-
 -- the first n places
 abbrev firsts : ℕ → Spots
 firsts n = record { lo = 0; gap = n; resume = n; hi = n }
@@ -50,18 +36,6 @@ first-ordered : (s : Spots) (n : ℕ) → s ≡ firsts n → Ordered s
 first-ordered s n e = subst Ordered (sym e) (record { one = omega arith; two = omega arith; three = omega arith })
 
 module _ {t ws : List ℕ} {rule : ℕ} {goal : CodedItem} {d : Daughters} {k : ℕ} {K : List ℕ} (S : Seated t rule d k) where
-  pub seek-one : (l : Look) → d.count ≤ k → 0 < length K → Only d k 1 l → Seeks t ws rule goal d k K l
-  seek-one l out some o = record {
-    chosen = o.chosen;
-    turn = o.turn;
-    seated = S;
-    ordered = first-ordered l.spots 1 o.spots;
-    end = rw o.spots some;
-    within = rw (o.spots, seats-out d k K out) (omega arith);
-    has = λ p h w. let b : p < 1 = rw (seats-out d k K out) at h in rw o.spots (inl (omega arith, b));
-    asks = λ p h w. o.any (get_or K p 0);
-  }
-
   pub seek-none : (l : Look) → k < 3 → (Leads t ws rule goal d → ⊥) → Only d k 0 l → Seeks t ws rule goal d k K l
   seek-none l three n o = record {
     chosen = o.chosen;
@@ -111,16 +85,21 @@ unfolding rule_at item_of
 other-kind n w = n (sym w.does.gives.kind)
 
 -- a place is taken
-module _ {t ws : List ℕ} {rule : ℕ} {goal : CodedItem} {K : List ℕ} {l : Look} {place : ℕ} (O : Onward t ws rule goal K l place) where
+module _ {t ws : List ℕ} {rule : ℕ} {goal : CodedItem} {K : List ℕ} {l : Look} {place : ℕ} (L : Looking K goal) (O : Onward t ws rule goal K l place) where
   pub on-place : place < length K
   on-place = omega (arith, O.below, O.seeks.end)
 
   pub on-code : (1 ≤ (known_of (get_or K place 0)).item.category) × (get_or K place 0 < 2 ^ 60)
-  on-code = O.looking.codes (get_or K place 0) (mem-at K place on-place)
+  on-code = L.codes (get_or K place 0) (mem-at K place on-place)
 
   pub on-seated : (next : ℕ) → next ≡ l.turn + 1 → l.turn < 3 → Seated t rule (taken l.chosen l.turn (get_or K place 0)) next
   on-seated next e h = seated-more t rule l.chosen l.turn (get_or K place 0) next e h on-code.0 O.seeks.seated
 
-  -- where it is not as asked, nothing leads from it to the goal
-  pub on_none : (Meets l.wants (known_of (get_or K place 0)) → ⊥) → Leads t ws rule goal (taken l.chosen l.turn (get_or K place 0)) → ⊥
-  on_none n w = n (O.seeks.asks place (omega (arith, O.below, O.seeks.within)) w)
+-- where it is not as asked, nothing leads from it to the goal
+pub on_none : {t ws : List ℕ} {rule : ℕ} {goal : CodedItem} {K : List ℕ} {l : Look} {place : ℕ} (O : Onward t ws rule goal K l place)
+    → (Meets l.wants (known_of (get_or K place 0)) → ⊥) → Leads t ws rule goal (taken l.chosen l.turn (get_or K place 0)) → ⊥
+on_none {place = place} O n w = n (O.seeks.asks place (omega (arith, O.below, O.seeks.within)) w)
+
+-- what is known of a quest
+pub looking : (q : Quest) → Looking q.known.now q.goal
+looking q = record { sorted = q.sorted; some = q.some; most = q.most; codes = q.codes; high = q.high; named = q.named }

@@ -8,7 +8,7 @@ use native.Mathlib.Decide.{dec_lt}
 use lib.ListN.{length}
 use Rattle.meaning.specs.Table.{rank_of}
 use Rattle.phrase.specs.declared.items.Item.{Item as CodedItem}
-use Rattle.phrase.proofs.RuleThere.{fine}
+use Rattle.rules.proofs.RuleThere.{fine}
 use Rattle.search.specs.declared.spots.Spots.{Spots}
 use Rattle.search.specs.Spots.{Ordered, Inside, Skips}
 use Rattle.chosen.specs.declared.looking.Look.{Look}

@@ -1,5 +1,5 @@
 -- The walk over functions and daughter places: what leads to an item, where a daughter is looked for, and what has been passed.
-use Rattle.std.specs.Prelude.{◌≡◌, cond, ℕ, ◌≤◌, ◌<◌, ◌^◌, ltb, length, get_or}
+use Rattle.std.specs.Prelude.{◌≡◌, cond, ℕ, ◌≤◌, ◌<◌, ◌^◌, ltb, length, get_or, Option, Some, None}
 use mathlib.Core.List.{List, Memᴰ as Mem}
 use Rattle.meaning.specs.Range.{Item}
 use Rattle.meaning.specs.Chart.{Known}
@@ -13,8 +13,7 @@ use Rattle.hint.specs.Hint.{Open, Partial, Completes, Does, Meets}
 use Rattle.search.specs.Spots.{Ordered, Inside}
 use Rattle.search.specs.Tried.{coded, put, none_of}
 use Rattle.chosen.specs.declared.looking.Look.{Look}
-use Rattle.chosen.specs.declared.walk.Walked.{Walked}
-use Rattle.chosen.specs.declared.walk.Walked.TheVariants.{At, Nowhere}
+use Rattle.chosen.specs.declared.walk.Way.{Way}
 
 -- over how many places daughter k is walked: the known items, or place 0 alone where the rule has no such daughter
 abbrev pub seats : Daughters → ℕ → List ℕ → ℕ
@@ -64,10 +63,8 @@ pub record Looking (K : List ℕ) (goal : CodedItem) : Type 0 where
   pub high : 1 ≤ goal.height
   pub named : goal.category ≡ 0 → ⊥
 
--- what is known where a place is taken of those where a daughter is looked for
+-- a place is taken of those where a daughter is looked for
 pub record Onward (t ws : List ℕ) (rule : ℕ) (goal : CodedItem) (K : List ℕ) (l : Look) (place : ℕ) : Type 0 where
-  pub there : RuleOf t rule
-  pub looking : Looking K goal
   pub seeks : Seeks t ws rule goal l.chosen l.turn K l
   pub below : place < l.spots.hi
 
@@ -113,9 +110,9 @@ module _ (t ws order K : List ℕ) (goal : CodedItem) where
     pub threes : (p : ℕ) → p < c → Works f a b p → ⊥
 
   -- 'take the first function number, then the first sequence of daughters in chart order'
-  pub data Finds : Walked → Type 0 where
-    found : {f a b c : ℕ} → f < length order → Works f a b c → Passed f a b c → Finds (At f a b c)
-    nowhere : ((f : ℕ) → f < length order → Works₀ f → ⊥) → Finds Nowhere
+  pub data Finds : Option Way → Type 0 where
+    found : {w : Way} → w.function < length order → Works w.function w.one w.two w.three → Passed w.function w.one w.two w.three → Finds (Some w)
+    nowhere : ((f : ℕ) → f < length order → Works₀ f → ⊥) → Finds None
 
 -- what is known when a goal's daughters are walked for
 pub record Walking (t ws order K : List ℕ) (goal : CodedItem) : Type 0 where

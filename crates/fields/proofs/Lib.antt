@@ -1,2 +1,2 @@
--- Laws that the proofs of all readers share.
+-- Laws of what callees answer and of counted loops.
 pub mod Laws

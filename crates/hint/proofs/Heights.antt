@@ -1,5 +1,5 @@
 -- What is asked of a daughter leaves out only what gives nothing: its height, and then each row.
-use mathlib.Core.Path.{◌≡◌, refl, sym, ap, ◌∙◌}
+use mathlib.Core.Path.{◌≡◌, refl, sym, ap, subst, ◌∙◌}
 use mathlib.Core.Logic.{inl, inr}
 use mathlib.Core.List.{List, [], ◌∷◌}
 use Prim.Native.Nat.{ℕ, zero, suc, ◌-◌, ◌≤◌, ◌<◌}
@@ -7,12 +7,16 @@ use native.Mathlib.Omega.{arith}
 use native.Mathlib.Decide.{dec_lt}
 use lib.ListN.{length, get_or, length-map, get_or-map, get_or-eq_default, length-take}
 use lib.Seq.{get_or-take}
+use Rattle.std.specs.List.{range_with_len, AllWithin}
+use Rattle.std.proofs.Common.{zero-add}
+use Rattle.std.proofs.lemmas.List.FromFn.{get_or-range_with_len}
 use Rattle.meaning.specs.Range.{Range, Item, nothing, at}
 use Rattle.meaning.specs.Giving.{held}
 use Rattle.meaning.specs.Chart.{Known, item, things, tallest}
 use Rattle.phrase.specs.declared.items.Item.{Item as CodedItem}
 use Rattle.phrase.specs.declared.items.Daughters.{Daughters}
 use Rattle.phrase.specs.Phrase.{item_of, items_of, row_of}
+use Rattle.hint.specs.declared.Place.TheVariants.{Any}
 use Rattle.hint.specs.declared.Wants.{Wants}
 use Rattle.hint.specs.Hint.{seat, Open, unknown, Partial, Completes, Asks}
 use Rattle.hint.specs.State.{Knows, Sharper, Ways, Wanted, Low, LeastAsked}
@@ -87,24 +91,21 @@ module _ {d : Daughters} (few : d.count ≤ 3) {full : List (Known Item)} (co : 
   least-meets {high} {k} (inr (e, lows)) t = omega (arith, tallest-at full high k t (others-lower lows))
 
 -- all three daughters are low
-pub three-low : (d : Daughters) (k high : ℕ) → d.count ≤ 3 → Low d k high 0 → Low d k high 1 → Low d k high 2 → (j : ℕ) → Low d k high j
-three-low d k high few a b c zero = a
-three-low d k high few a b c (suc zero) = b
-three-low d k high few a b c (suc (suc zero)) = c
-three-low d k high few a b c (suc (suc (suc j))) = λ l f. absurd (omega arith)
+pub three-low : (d : Daughters) (k high : ℕ) → d.count ≤ 3 → AllWithin (Low d k high) (range_with_len 0 3) 0 3 → (j : ℕ) → Low d k high j
+three-low d k high few lows j l f = subst (Low d k high) (get_or-range_with_len 0 3 j 0 (omega arith) ∙ zero-add j) (lows j 0 (omega arith) (omega arith)) l f
 
 module _ (t ws : List ℕ) (rule : ℕ) (d : Daughters) (goal : CodedItem) (k : ℕ) (p : Partial d) where
   -- at first only the height is asked
   pub asks-first : {low high : ℕ} → LeastAsked d k high low → high ≡ goal.height - 1
-      → Asks t ws rule d goal k (record { low = low; high = high; one = record { from = 65; to = 65 }; two = record { from = 65; to = 65 }; three = record { from = 65; to = 65 } })
+      → Asks t ws rule d goal k (record { low = low; high = high; one = record { from = Any; to = Any }; two = record { from = Any; to = Any }; three = record { from = Any; to = Any } })
   asks-first {low} {high} l e full x co gv =
       let h : high ≡ tallest full = omega (arith, gv.high) in
       record {
         low = least-meets p.few co l h;
         high = omega (arith, below-tallest full k);
-        one = inr (inl refl, inl refl);
-        two = inr (inl refl, inl refl);
-        three = inr (inl refl, inl refl);
+        one = inr (tt, tt);
+        two = inr (tt, tt);
+        three = inr (tt, tt);
       }
 
   -- then what each row asks

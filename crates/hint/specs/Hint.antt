@@ -1,5 +1,5 @@
 -- What the daughters that are chosen, and the item that is wanted, ask of a daughter that is not chosen yet: whoever is left out gives nothing.
-use Rattle.std.specs.Prelude.{ℕ, zero, suc, ◌≤◌, ◌<◌, ◌≡◌, ◌⊎◌, List, length, get_or}
+use Rattle.std.specs.Prelude.{ℕ, zero, suc, ◌≤◌, ◌<◌, ◌≡◌, ◌⊎◌, List, length, get_or, Option, Some, None}
 use Rattle.meaning.specs.Range.{Range, none, Item, nothing}
 use Rattle.meaning.specs.Giving.{Gives}
 use Rattle.meaning.specs.Chart.{Known, things, tallest}
@@ -9,10 +9,10 @@ use Rattle.store.specs.Code.{known_of}
 use Rattle.phrase.specs.declared.items.Item.{Item as CodedItem}
 use Rattle.phrase.specs.declared.items.Daughters.{Daughters}
 use Rattle.phrase.specs.Phrase.{item_of}
+use Rattle.hint.specs.declared.Place.{Place}
+use Rattle.hint.specs.declared.Place.TheVariants.{Any, At, Nowhere}
 use Rattle.hint.specs.declared.Want.{Want}
 use Rattle.hint.specs.declared.Wants.{Wants}
-use Rattle.hint.specs.declared.Turn.{Turn}
-use Rattle.hint.specs.declared.Turn.TheVariants.{Daughter, Done}
 use Rattle.hint.specs.declared.Reach.{Reach}
 
 -- daughter k as it stands; one that is not chosen yet has category 0
@@ -48,9 +48,11 @@ pub record Does (t ws : List ℕ) (rule : ℕ) (goal : CodedItem) (full : List (
   pub high : goal.height ≡ suc (tallest full)
   pub same : (goal.category ≡ 0 → ⊥) → x ≡ item_of goal
 
--- a number is as asked; 65 asks for nothing
-abbrev pub As : ℕ → ℕ → Type 0
-As asked n = (asked ≡ 65) ⊎ (asked ≡ n)
+-- a number is as asked
+abbrev pub As : Place → ℕ → Type 0
+As Any n = Unit {0}
+As (At e) n = n ≡ e
+As Nowhere n = ⊥
 
 -- a part is empty, or starts and ends as asked
 abbrev pub PartMeets : Want → Range → Type 0
@@ -69,9 +71,9 @@ abbrev pub Asks : List ℕ → List ℕ → ℕ → Daughters → CodedItem → 
 Asks t ws rule d goal k w = (full : List (Known Item)) (x : Item) → Completes d full → Does t ws rule goal full x → Meets w (get_or full k unknown)
 
 -- the daughter that is chosen next, or that all are chosen
-pub data Turns (d : Daughters) : Turn → Type 0 where
-  next_is : {k : ℕ} → k < d.count → Open d k → Turns d (Daughter k)
-  all_chosen : ((k : ℕ) → k < d.count → Open d k → ⊥) → Turns d Done
+pub data Turns (d : Daughters) : Option ℕ → Type 0 where
+  next_is : {k : ℕ} → k < d.count → Open d k → Turns d (Some k)
+  all_chosen : ((k : ℕ) → k < d.count → Open d k → ⊥) → Turns d None
 
 -- the codes of a category that are as asked stand within two parts, the first before the second
 pub record Reaches (A : ℕ) (w : Wants) (r : Reach) : Type 0 where

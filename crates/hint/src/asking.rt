@@ -1,93 +1,53 @@
 // What the daughters that are chosen, and the item that is wanted, ask of a daughter: heights, and where its parts must stand.
 ghost use Rattle.std.specs.Prelude.{◌≡◌, true, ◌≤◌};
-ghost use Rattle.phrase.specs.Phrase.{RuleOf};
 ghost use Rattle.hint.specs.Hint.{seat, Partial, Asks};
 ghost use Rattle.hint.specs.State.{Low, LeastAsked};
 
-use crate::codes::wide;
-use crate::order::category_of;
-use crate::passes::row_asks;
-use crate::{ANYWHERE, Want, Wants};
+use crate::order::{is_chosen, seat};
+use crate::steps::Asking;
+use crate::{Want, Wants};
 use phrase::{Daughters, Item};
-
-// The height of daughter k, from 0.
-fn height_of(d: Daughters, k: usize) -> u16
-    ensures { result ≡ (seat d k).height }
-{
-    if k == 0 {
-        return d.one.height;
-    }
-    if k == 1 {
-        return d.two.height;
-    }
-    d.three.height
-}
+use rules::Rule;
 
 // Whether daughter j is chosen and lower than the greatest height; daughter k, and one that is not there, do not matter.
 fn is_low(d: Daughters, k: usize, high: u64, j: usize) -> bool
     ensures { result ≡ true → Low d k high j }
 {
-    if j == k {
-        return true;
-    }
-    if d.count <= j {
-        return true;
-    }
-    if category_of(d, j) == 0 {
-        return false;
-    }
-    if wide(height_of(d, j)) < high {
-        return true;
-    }
-    false
+    j == k || d.count <= j || is_chosen(d, j) && u64::from(seat(d, j).height) < high
 }
 
 // The least height of daughter k: the greatest, where all others are chosen and none has it; else there is none.
 fn least(d: Daughters, k: usize, high: u64) -> u64
-    requires { Partial d }
+    requires { d.count ≤ 3 }
     ensures { LeastAsked d k high result }
 {
-    if !is_low(d, k, high, 0) {
-        return 0;
+    if (0..3).all(|j| is_low(d, k, high, j)) {
+        high
+    } else {
+        0
     }
-    if !is_low(d, k, high, 1) {
-        return 0;
-    }
-    if !is_low(d, k, high, 2) {
-        return 0;
-    }
-    high
 }
 
 // What is asked of daughter k, from 0, by the daughters that are chosen and the item that is wanted; its category is 0 where any will do.
-pub fn wants_of(
-    table: &[u8],
-    rule: usize,
-    words: &[u16],
-    d: Daughters,
-    goal: Item,
-    k: usize,
-) -> Wants
-    requires { RuleOf table.now rule × Partial d × (1 ≤ goal.height) }
-    ensures { Asks table.now words.now rule d goal k result }
+pub fn wants_of(rule: Rule, words: &[u16], d: Daughters, goal: Item, k: usize) -> Wants
+    requires { Partial d × (1 ≤ goal.height) }
+    ensures { Asks rule.entry.table.now words.now rule.entry.at d goal k result }
 {
-    let high = wide(goal.height) - 1;
-    let low = least(d, k, high);
-    let any = Want {
-        from: ANYWHERE,
-        to: ANYWHERE,
-    };
+    let high = u64::from(goal.height) - 1;
     let mut w = Wants {
-        low: low,
-        high: high,
-        one: any,
-        two: any,
-        three: any,
+        low: least(d, k, high),
+        high,
+        one: Want::NOTHING,
+        two: Want::NOTHING,
+        three: Want::NOTHING,
     };
-    let mut i = 0;
-    while i < 3 {
-        w = row_asks(table, rule, words, d, goal, k, i, w);
-        i += 1;
+    let asking = Asking {
+        words,
+        chosen: d,
+        turn: k,
+    };
+    for i in 0..3 {
+        w = asking.ask_row(rule, i, goal, w);
     }
     w
 }

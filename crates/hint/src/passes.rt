@@ -1,155 +1,89 @@
-// A row walked from its left end, and back from its right end: what is asked of the parts of a daughter on the way.
-ghost use Rattle.std.specs.Prelude.{◌≤◌, length};
+// A row walked from its left side, and back from its right side: what is asked of the parts of a daughter on the way.
 ghost use Rattle.meaning.specs.Range as range;
-ghost use Rattle.meaning.specs.Decode.{row_at, row_end};
-ghost use Rattle.phrase.specs.Phrase.{RuleOf, row_of};
-ghost use Rattle.hint.specs.State.{StartsAs, EndsAs, Sharper, PartStarts, PartEnds, Ways, Wanted};
+ghost use Rattle.meaning.specs.Decode.{row_at};
+ghost use Rattle.phrase.specs.Phrase.{row_of};
+ghost use Rattle.rules.specs.Symbols.{symbol_of};
+ghost use Rattle.hint.specs.State.{SideAs, Sharper, Sharpens, PartAs, Ways, Wanted};
 
-use crate::Wants;
-use crate::steps::{State, asked, part_at, step_back, step_on};
-use fields::byte_at;
-use phrase::{Daughters, Item, Row, range_at, row_of};
-use rules::row_end;
+use crate::steps::{Asking, Side};
+use crate::{Place, Want, Wants};
+use phrase::{Item, range_at, row_of};
+use rules::{Row, Rule, Symbol};
 
-// Asks besides that part c, from 0, start at a place; past the third part there is nothing to ask.
-fn ask_start(w: Wants, c: usize, place: u64) -> Wants
-    ensures { Sharper (PartStarts c place) w result }
+// Wants besides that a part starts, or ends, at a place.
+#[inline(always)]
+fn sharpened(side: Side, place: Place, w: Want) -> Want
+    ensures { Sharpens side place w result }
 {
-    let mut r = w;
-    if c == 0 {
-        r.one.from = place;
-        return r;
+    match side {
+        Side::Left => Want { from: place, ..w },
+        Side::Right => Want { to: place, ..w },
     }
-    if c == 1 {
-        r.two.from = place;
-        return r;
-    }
-    if c == 2 {
-        r.three.from = place;
-        return r;
-    }
-    w
 }
 
-// Asks besides that part c, from 0, end at a place; past the third part there is nothing to ask.
-fn ask_end(w: Wants, c: usize, place: u64) -> Wants
-    ensures { Sharper (PartEnds c place) w result }
+// Asks besides that a symbol, if it is a part of daughter k, starts, or ends, at a place; past the third part there is nothing to ask.
+#[inline(always)]
+fn ask(side: Side, k: usize, x: Symbol, place: Place, w: Wants) -> Wants
+    ensures { Sharper (PartAs side k (symbol_of x) place) w result }
 {
-    let mut r = w;
-    if c == 0 {
-        r.one.to = place;
-        return r;
+    match x {
+        Symbol::Part(j, 0) if j == k => Wants {
+            one: sharpened(side, place, w.one),
+            ..w
+        },
+        Symbol::Part(j, 1) if j == k => Wants {
+            two: sharpened(side, place, w.two),
+            ..w
+        },
+        Symbol::Part(j, 2) if j == k => Wants {
+            three: sharpened(side, place, w.three),
+            ..w
+        },
+        _ => w,
     }
-    if c == 1 {
-        r.two.to = place;
-        return r;
-    }
-    if c == 2 {
-        r.three.to = place;
-        return r;
-    }
-    w
 }
 
-// Asks besides where the parts of daughter k in a row must start, from what is known of the row's start.
-fn from_left(
-    table: &[u8],
-    place: usize,
-    words: &[u16],
-    d: Daughters,
-    k: usize,
-    s: State,
-    w: Wants,
-) -> Wants
-    requires { row_end table.now place ≤ length table.now }
-    ensures { Sharper (Ways words.now d k (row_at table.now place) (StartsAs s)) w result }
-{
-    let mut left = byte_at(table, place);
-    let mut at = place + 1;
-    let mut here = s;
-    let mut r = w;
-    while left > 0 {
-        let c = part_at(table, at, k);
-        r = ask_start(r, c, asked(here));
-        here = step_on(table, at, words, d, here);
-        at += 3;
-        left -= 1;
-    }
-    r
-}
-
-// Asks besides where the parts of daughter k in a row must end, from what is known of the row's end.
-fn from_right(
-    table: &[u8],
-    place: usize,
-    words: &[u16],
-    d: Daughters,
-    k: usize,
-    s: State,
-    w: Wants,
-) -> Wants
-    requires { row_end table.now place ≤ length table.now }
-    ensures { Sharper (Ways words.now d k (row_at table.now place) (EndsAs s)) w result }
-{
-    let mut left = byte_at(table, place);
-    let mut at = row_end(table, place);
-    let mut here = s;
-    let mut r = w;
-    while left > 0 {
-        at -= 3;
-        let c = part_at(table, at, k);
-        r = ask_end(r, c, asked(here));
-        here = step_back(table, at, words, d, here);
-        left -= 1;
-    }
-    r
-}
-
-// What is known of the start of row i, where an item is wanted; its category is 0 where none is.
-fn opening(goal: Item, i: usize) -> State
-    ensures { (r : range.Range) → Wanted goal i r → StartsAs result r }
+// What is known of a side of row i, where an item is wanted; its category is 0 where none is.
+// Kept: a number for no item, since the goal's height counts even then (Does in specs/Hint.antt).
+#[inline(always)]
+fn goal_side(side: Side, goal: Item, i: usize) -> Place
+    ensures { (r : range.Range) → Wanted goal i r → SideAs side result r }
 {
     if goal.category == 0 {
-        return State::Free;
+        return Place::Any;
     }
     let r = range_at(goal, i);
     if r.to == 0 {
-        return State::Never;
+        return Place::Nowhere;
     }
-    State::At(r.from)
+    Place::At(side.near(r))
 }
 
-// What is known of the end of row i, where an item is wanted.
-fn closing(goal: Item, i: usize) -> State
-    ensures { (r : range.Range) → Wanted goal i r → EndsAs result r }
-{
-    if goal.category == 0 {
-        return State::Free;
+impl Asking<'_> {
+    // Asks besides where the daughter's parts in a row must start, or end, from what is known of the row's side.
+    #[inline(always)]
+    fn walk(self, side: Side, row: Row, s: Place, w: Wants) -> Wants
+        ensures { Sharper (Ways self.entry.words.now self.entry.chosen self.entry.turn (row_at row.entry.table.now row.entry.at) (SideAs side s)) w result }
+    {
+        let n = row.len();
+        let mut here = s;
+        let mut r = w;
+        for i in 0..n {
+            let x = row.symbol(side.index(i, n));
+            r = ask(side, self.turn, x, here, r);
+            here = self.over(side, x, here);
+        }
+        r
     }
-    let r = range_at(goal, i);
-    if r.to == 0 {
-        return State::Never;
-    }
-    State::At(r.to)
-}
 
-// Asks besides where the parts of daughter k in row i of the rule must start and end.
-pub(crate) fn row_asks(
-    table: &[u8],
-    rule: usize,
-    words: &[u16],
-    d: Daughters,
-    goal: Item,
-    k: usize,
-    i: usize,
-    w: Wants,
-) -> Wants
-    requires { RuleOf table.now rule }
-    ensures { Sharper (Ways words.now d k (row_of table.now rule i) (Wanted goal i)) w result }
-{
-    let Row::At(place) = row_of(table, rule, i) else {
-        return w;
-    };
-    let r = from_left(table, place, words, d, k, opening(goal, i), w);
-    from_right(table, place, words, d, k, closing(goal, i), r)
+    // Asks besides where the daughter's parts in row i of the rule must start and end.
+    pub(crate) fn ask_row(self, rule: Rule, i: usize, goal: Item, w: Wants) -> Wants
+        ensures { Sharper (Ways self.entry.words.now self.entry.chosen self.entry.turn (row_of rule.entry.table.now rule.entry.at i) (Wanted goal i)) w result }
+    {
+        let Some(row) = row_of(rule, i) else {
+            return w;
+        };
+        let from_left = self.walk(Side::Left, row, goal_side(Side::Left, goal, i), w);
+        self.walk(Side::Right, row, goal_side(Side::Right, goal, i), from_left)
+    }
 }

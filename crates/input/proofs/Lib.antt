@@ -1,2 +1,2 @@
--- Laws of a sentence's words.
+-- Laws of the writing of a sentence's words.
 pub mod Sentence

@@ -1,37 +1,18 @@
--- The words of a sentence: the check of each, and a slice into which they are written from the left.
+-- The words of a sentence, written into a slice from the left.
 use Prim.Native.Nat.{ℕ, ◌+◌, ◌*◌, ◌/◌, ◌<◌, min}
-use mathlib.Core.Path.{◌≡◌, refl}
-use mathlib.Core.List.{List, ◌++◌, append-nil}
+use mathlib.Core.Path.{◌≡◌, ◌∙◌}
+use mathlib.Core.List.{List, [], ◌++◌, append-nil}
 use native.Mathlib.Omega.{arith}
 use native.Mathlib.Numerals.{add-one}
 use native.Mathlib.Nat.{zero-add}
 use native.Mathlib.Decide.{dec_lt}
-use lib.ListN.{length, set, take, drop, drop_of_length-le}
-use lib.Seq.{paste-suc, take_all}
-use borrow.Author.Tests.{eq-eqb, ne_eqb}
-use Rattle.meaning.specs.declared.Refusal.TheVariants.{ZeroWord}
-use Rattle.meaning.specs.Table.{got, refused, ◌>>◌, number}
-use Rattle.meaning.specs.Decode.{words_of, word_there}
+use lib.ListN.{length, set, take, drop, drop_of_length-le, length-take}
+use lib.Seq.{paste-suc, take_all, length-take-le}
+use Rattle.meaning.specs.Table.{got, number}
+use Rattle.meaning.specs.Decode.{words_of, check_input}
 use Rattle.meaning.proofs.Words.{words-length, word_at}
-use Rattle.table.specs.declared.Verdict.{Verdict}
-use Rattle.table.specs.declared.Verdict.TheVariants.{Valid, Invalid}
-use Rattle.table.specs.Views.{verdict_of, verdict_with}
+use Rattle.meaning.proofs.Determined.{words-few}
 use Rattle.input.specs.Views.{filled}
-
--- what a word that was read says of the definition
-module _ (b : List ℕ) (i n : ℕ) (e : n ≡ number b (2 * i)) where
-  pub word_on : (n ≡ 0 → ⊥) → word_there b i ≡ got (i + 1)
-  unfolding word_there
-  word_on h = rw (← e, ne_eqb n 0 h)
-
-  pub word_out : n ≡ 0 → word_there b i ≡ refused (ZeroWord i)
-  unfolding word_there
-  word_out h = rw (← e, eq-eqb n 0 h)
-
--- a verdict is what is left behind, forgotten
-pub forget : {A : Type 0} (r : Verdict) (a : A) → verdict_of r ≡ verdict_with r a >> got tt
-forget Valid a = refl
-forget (Invalid r) a = refl
 
 module _ (b lent : List ℕ) where
   -- the slice after the first i words were written
@@ -58,9 +39,22 @@ module _ (b lent : List ℕ) where
           let q : i ≡ length (words_of b) = omega (arith, words-length b) in
           rw (q, take_all (length (words_of b)) (words_of b) (omega arith), take_all (length lent) (words_of b) (omega (arith, words-length b)))
 
+  -- where the words were written into the part of the slice that they fit
+  pub part-written : (ws : List ℕ) (n i : ℕ) → n ≡ min (length lent) (length b / 2) → i ≡ n → ws ≡ take i (words_of b) ++ drop i (take n lent) → ws ++ drop n lent ≡ filled (words_of b) lent
+  part-written ws n i e q f =
+      let d : drop i (take n lent) ≡ [] = drop_of_length-le (take n lent) {i = i} (omega (arith, length-take n lent)) in
+      rw (f, d, append-nil, q) (all-written n e)
+
   -- a slice of the words' number holds them exactly
   pub filled-exactly : length lent ≡ length b / 2 → filled (words_of b) lent ≡ words_of b
   unfolding filled
   filled-exactly e =
       rw (take_all (length lent) (words_of b) (omega (arith, words-length b)), drop_of_length-le lent {i = length (words_of b)} (omega (arith, words-length b)))
       (append-nil (words_of b))
+
+pub ruleset writes = (write-next, part-written, length-take)
+
+-- the words of an accepted sentence, read into the front of 64 numbers, just as many as there are
+pub words-read : (t w lent : List ℕ) {out : List ℕ} → check_input t w ≡ got tt → length lent ≡ 64 → out ≡ filled (words_of w) (take (length w / 2) lent)
+    → out ≡ words_of w
+words-read t w lent e n q = q ∙ filled-exactly w (take (length w / 2) lent) (length-take-le (length w / 2) lent (rw n (words-few t w e)))

@@ -21,12 +21,12 @@ use Rattle.lent.specs.Lent.{number_at, numbers_at, Placed}
 
 -- what stands at a place is what its record states
 inside : {A : Type 0} (l : List A) (p : ℕ) {a : A} → get_elem? l p ≡ some a → p < length l
-inside [] p e = let z : ◌≡◌ {A = ℕ} 0 1 = cc in absurd (omega arith)
+inside [] p e = absurd cc
 inside (b ∷ l) zero e = omega arith
 inside (b ∷ l) (suc p) e = let h = inside l p e in omega arith
 
 at-image : {A B : Type 0} (f : A → B) (l : List A) (p : ℕ) {a : A} → get_elem? l p ≡ some a → get_elem? (map f l) p ≡ some (f a)
-at-image f [] p e = let z : ◌≡◌ {A = ℕ} 0 1 = cc in absurd (omega arith)
+at-image f [] p e = absurd cc
 at-image f (b ∷ l) zero e = cc
 at-image f (b ∷ l) (suc p) e = at-image f l p e
 
@@ -97,7 +97,9 @@ module _ (c : List ℕ) (i : ℕ) where
           go zero l e = each_none
           go (suc zero) l e = each_more ((f 0 (omega arith)).below (omega arith)) each_none
           go (suc (suc zero)) l e = each_more ((f 0 (omega arith)).below (omega arith)) (each_more ((f 1 (omega arith)).below (omega arith)) each_none)
-          go (suc (suc (suc zero))) l e = each_more ((f 0 (omega arith)).below (omega arith)) (each_more ((f 1 (omega arith)).below (omega arith)) (each_more ((f 2 (omega arith)).below (omega arith)) each_none))
+          go (suc (suc (suc zero))) l e =
+              each_more ((f 0 (omega arith)).below (omega arith))
+              (each_more ((f 1 (omega arith)).below (omega arith)) (each_more ((f 2 (omega arith)).below (omega arith)) each_none))
           go (suc (suc (suc (suc m)))) l e = absurd (omega arith)
 
       -- a place is as it must be where the daughters are below the count and the places that are shown are the record's
@@ -144,7 +146,10 @@ module _ (G : Grammar) (c : List ℕ) (i : ℕ) (h : 12 * i + 12 ≤ length c) w
         where
           go : Dec (k < 9) → get_or c (12 * i + k) 0 ≡ get_or (shown (entry_at G c i)) k 0
           go (yes m) = stated-shown k m
-          go (no m) = let e : k ≡ 9 + (k - 9) = omega arith in subst (λ (j : ℕ). number_at c i j ≡ get_or (shown (entry_at G c i)) j 0) (sym e) (sym (place-shown (k - 9) (omega arith) ∙ s (k - 9) (omega arith)))
+          go (no m) =
+              let e : k ≡ 9 + (k - 9) = omega arith in
+              let shows = λ (j : ℕ). number_at c i j ≡ get_or (shown (entry_at G c i)) j 0 in
+              subst shows (sym e) (sym (place-shown (k - 9) (omega arith) ∙ s (k - 9) (omega arith)))
 
   pub shown-record : shown (entry_at G c i) ≡ record_at c i → (k : ℕ) → k < 3 → get_or (entry_at G c i).places k 0 ≡ number_at c i (9 + k)
   shown-record e k l = sym (place-shown k l) ∙ ap (λ (r : List ℕ). get_or r (9 + k) 0) e ∙ slice_at (12 * i) (12 * i + 12) c (9 + k) (omega arith)

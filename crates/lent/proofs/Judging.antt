@@ -1,5 +1,9 @@
 -- What the tests of a record decide: its daughters' places, the item that is given, the height.
-use Prim.Native.Nat.{ℕ, ◌+◌, ◌<◌}
+use Prim.Native.Nat.{ℕ, ◌+◌, ◌≤◌, ◌<◌}
+use lib.Dec.{eqb, ltb}
+use borrow.Author.Tests.{lt-ltb, eq-eqb}
+use Rattle.std.proofs.lemmas.Bool.{eqb-true, ltb-true}
+use Rattle.phrase.proofs.Fit.{decided}
 use mathlib.Core.Path.{◌≡◌, sym, ap, ◌∙◌}
 use mathlib.Core.List.{List}
 use native.Mathlib.Omega.{arith}
@@ -11,9 +15,17 @@ use Rattle.meaning.specs.Decode.{rule_at, grammar_of}
 use Rattle.meaning.specs.TreeWriting.{stated_at}
 use Rattle.phrase.specs.declared.items.Item.{Item as CodedItem}
 use Rattle.phrase.specs.declared.items.Daughters.{Daughters}
-use Rattle.phrase.specs.Phrase.{item_of, items_of, GivesAt}
-use Rattle.lent.specs.Lent.{known_of, knowns_of, daughters_at, Placed, WayAt}
+use Rattle.phrase.specs.Phrase.{item_of, items_of, Decides, GivesAt}
+use Rattle.lent.specs.Lent.{known_of, knowns_of, number_at, daughters_at, Placed, WayAt}
 use Rattle.lent.proofs.Statings.{items-are}
+
+-- a place, by the number that the record has for it
+module _ {c : List ℕ} {count i rank k n : ℕ} where
+  pub placed_used : k < rank → n ≡ number_at c i (9 + k) → Decides (Placed c count i rank k) (ltb n count)
+  placed_used h e = decided _ (λ p. let b = p.below h in lt-ltb n count (omega arith)) (λ f. let b = ltb-true n count f in record { below = λ l. omega arith; unused = λ l. absurd (omega arith) })
+
+  pub placed_unused : rank ≤ k → n ≡ number_at c i (9 + k) → Decides (Placed c count i rank k) (eqb n 0)
+  placed_unused h e = decided _ (λ p. eq-eqb n 0 (e ∙ p.unused h)) (λ f. let z = eqb-true n 0 f in record { below = λ l. absurd (omega arith); unused = λ l. omega arith })
 
 module _ (t ws c : List ℕ) (count rule i rank : ℕ) (r : rank ≡ rank_of t rule) where
   -- the places

@@ -6,8 +6,9 @@ use native.Mathlib.Omega.{arith}
 use native.Mathlib.Decide.{dec_lt}
 use Rattle.meaning.specs.Decode.{grammar_of}
 use Rattle.meaning.specs.TreeWriting.{FirstBad}
-use Rattle.lent.specs.declared.ChartAnswer.{ChartAnswer}
-use Rattle.lent.specs.declared.ChartAnswer.TheVariants.{Bad}
+use Rattle.std.specs.Prelude.{Result, Err}
+use Rattle.lent.specs.declared.ChartFault.{ChartFault}
+use Rattle.lent.specs.declared.ChartFault.TheVariants.{Bad}
 use Rattle.lent.specs.Lent.{Checked, good, many, bad}
 
 module _ (t ws c : List ℕ) (count : ℕ) where
@@ -20,7 +21,7 @@ module _ (t ws c : List ℕ) (count : ℕ) where
       go (no l) (yes m) = absurd (b.bad (a.sound j m))
       go (no l) (no m) = omega arith
 
-  pub one_answer : {r s : ChartAnswer} → Checked t ws c count r → Checked t ws c count s → r ≡ s
+  pub one_answer : {r s : Result (Unit {0}) ChartFault} → Checked t ws c count r → Checked t ws c count s → r ≡ s
   one_answer (good p) (good q) = refl
   one_answer (good p) (many m) = absurd (p.few m)
   one_answer (good p) (bad {i = i} b) = absurd (b.bad (p.sound i b.below))
@@ -29,4 +30,4 @@ module _ (t ws c : List ℕ) (count : ℕ) where
   one_answer (many m) (bad b) = absurd (b.few m)
   one_answer (bad {i = i} b) (good q) = absurd (b.bad (q.sound i b.below))
   one_answer (bad b) (many m) = absurd (b.few m)
-  one_answer (bad b) (bad d) = ap Bad (one-first b d)
+  one_answer (bad b) (bad d) = ap (λ (i : ℕ). Err (Bad i)) (one-first b d)

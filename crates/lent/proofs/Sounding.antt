@@ -6,7 +6,6 @@ use mathlib.Core.Option.{none, some}
 use mathlib.Core.Bool.{Bool}
 use mathlib.Core.List.{List, map}
 use native.Mathlib.Omega.{arith}
-use native.Mathlib.Decide.{dec_lt}
 use lib.ListN.{length, get_or, take}
 use Rattle.meaning.specs.Order.{Each}
 use Rattle.meaning.specs.Range.{Item}
@@ -18,30 +17,23 @@ use Rattle.meaning.specs.Decode.{rule_at, grammar_of}
 use Rattle.meaning.specs.TreeWriting.{named, stated_at, entry_at, Sound, TooMany}
 use Rattle.meaning.proofs.Walk.{named-is, found}
 use Rattle.meaning.proofs.Decoded.{several-length, valid-grammar}
-use Rattle.rules.specs.declared.walk.Found.{Found}
-use Rattle.rules.specs.declared.walk.Found.TheVariants.{At, Unknown}
+use Rattle.std.specs.Prelude.{Some, None}
 use Rattle.rules.specs.Walk.{Finds, known, unknown}
 use Rattle.phrase.specs.Phrase.{RuleOf, Decides}
 use Rattle.phrase.proofs.Fit.{instead}
-use Rattle.phrase.proofs.RuleThere.{fine}
+use Rattle.rules.proofs.RuleThere.{fine}
 use Rattle.lent.specs.Lent.{number_at, daughters_at, After, WayAt}
 use Rattle.lent.proofs.Entries.{places, found_all, found_below, slice_places, each_below, placed_by, shown_by, record-shown, shown-record}
 
 -- what the search for a function's rule finds, for a function number that is equal to the one asked
-same_place : {p q : ℕ} → At p ≡ At q → p ≡ q
-same_place e = cc
+pub finds-rule : {t : List ℕ} {f p : ℕ} → Finds t f (Some p) → RuleOf t p
+finds-rule (known o m) = o
 
-pub finds-rule : {t : List ℕ} {f p : ℕ} {r : Found} → Finds t f r → r ≡ At p → RuleOf t p
-finds-rule {t} (known o m) e = subst (RuleOf t) (same_place e) o
-finds-rule (unknown m) e = let z : ◌≡◌ {A = ℕ} 0 1 = cc in absurd (omega arith)
+pub finds-named : {t : List ℕ} {f n p : ℕ} → Finds t f (Some p) → f ≡ n → named (grammar_of t).rules n ≡ some (rule_at t p)
+finds-named {t} (known o m) q = ap (named (grammar_of t).rules) (sym q) ∙ m
 
-pub finds-named : {t : List ℕ} {f n p : ℕ} {r : Found} → Finds t f r → f ≡ n → r ≡ At p → named (grammar_of t).rules n ≡ some (rule_at t p)
-finds-named {t} (known o m) q e = ap (named (grammar_of t).rules) (sym q) ∙ m ∙ ap (λ (p : ℕ). some (rule_at t p)) (same_place e)
-finds-named (unknown m) q e = let z : ◌≡◌ {A = ℕ} 0 1 = cc in absurd (omega arith)
-
-pub finds-none : {t : List ℕ} {f n : ℕ} {r : Found} → Finds t f r → f ≡ n → r ≡ Unknown → named (grammar_of t).rules n ≡ none
-finds-none (known o m) q e = let z : ◌≡◌ {A = ℕ} 0 1 = cc in absurd (omega arith)
-finds-none {t} (unknown m) q e = ap (named (grammar_of t).rules) (sym q) ∙ m
+pub finds-none : {t : List ℕ} {f n : ℕ} → Finds t f None → f ≡ n → named (grammar_of t).rules n ≡ none
+finds-none {t} (unknown m) q = ap (named (grammar_of t).rules) (sym q) ∙ m
 
 module _ (t ws c : List ℕ) (count i : ℕ) where
   pub order-of : Sound (grammar_of t) ws c count i → After c i
@@ -57,7 +49,7 @@ module _ (t ws c : List ℕ) (count i : ℕ) where
   known_by e s = let (r, f, g) = s.way.given in (r, (ap (named (grammar_of t).rules) (sym f) ∙ found (valid-grammar t e) r g.known, g))
 
   pub unknown-no : check_table t ≡ got tt → named (grammar_of t).rules (number_at c i 1) ≡ none → Sound (grammar_of t) ws c count i → ⊥
-  unknown-no e n s = let (r, (m, g)) = known_by e s in let z : ◌≡◌ {A = ℕ} 0 1 = cc in omega arith
+  unknown-no e n s = let (r, (m, g)) = known_by e s in absurd cc
 
   -- a record whose function's rule is known
   module _ (rule : ℕ) (o : RuleOf t rule) (n : named (grammar_of t).rules (number_at c i 1) ≡ some (rule_at t rule)) (h : 12 * i + 12 ≤ length c) where
@@ -94,7 +86,8 @@ module _ (t ws c : List ℕ) (count i : ℕ) where
         let (r, (m, g)) = known_by o.accepted s in
         let f : r ≡ rule_at t rule = cc in
         record {
-          placed = placed_by c i (rank_of t rule) count (subst (Each (λ p. p < count)) places-are bs) (λ k l. ap (λ (ps : List ℕ). get_or ps k 0) (sym places-are) ∙ shown-record (grammar_of t) c i h s.unused k l);
+          placed = placed_by c i (rank_of t rule) count (subst (Each (λ p. p < count)) places-are bs)
+              (λ k l. ap (λ (ps : List ℕ). get_or ps k 0) (sym places-are) ∙ shown-record (grammar_of t) c i h s.unused k l);
           given = rw (← f, ← ds) g;
           high = s.way.high ∙ ap (λ (l : List (Known Item)). suc (tallest l)) ds;
         }
@@ -106,11 +99,3 @@ module _ (t ws c : List ℕ) (count i : ℕ) where
 pub few-enough : (c : List ℕ) (count : ℕ) → count ≤ 2000 → count ≤ length c / 12 → TooMany c count → ⊥
 few-enough c count h k (inl m) = omega arith
 few-enough c count h k (inr m) = omega arith
-
--- one more sound record
-pub sound-on : (P : ℕ → Type 0) {i : ℕ} → ((j : ℕ) → j < i → P j) → P i → (j : ℕ) → j < i + 1 → P j
-sound-on P {i} f p j h = go (dec_lt j i)
-  where
-    go : Dec (j < i) → P j
-    go (yes l) = f j l
-    go (no l) = let e : i ≡ j = omega arith in subst P e p

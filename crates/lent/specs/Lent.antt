@@ -1,5 +1,5 @@
 -- The check of a lent chart: what it answers, and what each part of it finds. Document 01, 'Tree and sentence', code 17.
-use Rattle.std.specs.Prelude.{ℕ, suc, ◌+◌, ◌*◌, ◌-◌, ◌≤◌, ◌<◌, ◌≡◌, List, [], ◌∷◌, map, get_or, take}
+use Rattle.std.specs.Prelude.{ℕ, suc, ◌+◌, ◌*◌, ◌-◌, ◌≤◌, ◌<◌, ◌≡◌, List, [], ◌∷◌, map, get_or, take, Result, Ok, Err}
 use Rattle.meaning.specs.Range.{Item}
 use Rattle.meaning.specs.Giving.{Gives}
 use Rattle.meaning.specs.Chart.{Known, tallest, things, Before}
@@ -9,8 +9,8 @@ use Rattle.meaning.specs.TreeWriting.{stated_at, TooMany, Passes, FirstBad}
 use Rattle.phrase.specs.declared.items.Item.{Item as CodedItem}
 use Rattle.phrase.specs.declared.items.Daughters.{Daughters}
 use Rattle.phrase.specs.Phrase.{item_of}
-use Rattle.lent.specs.declared.ChartAnswer.{ChartAnswer}
-use Rattle.lent.specs.declared.ChartAnswer.TheVariants.{Good, Many, Bad}
+use Rattle.lent.specs.declared.ChartFault.{ChartFault}
+use Rattle.lent.specs.declared.ChartFault.TheVariants.{Many, Bad}
 
 -- an item of the code, with its height
 unfoldable pub known_of : CodedItem → Known Item
@@ -48,8 +48,8 @@ pub record WayAt (t ws c : List ℕ) (count rule i : ℕ) : Type 0 where
   pub given : Gives (grammar_of t) ws (rule_at t rule) (things (daughters_at c i (rank_of t rule))) (stated_at c i).item
   pub high : (stated_at c i).height ≡ suc (tallest (daughters_at c i (rank_of t rule)))
 
--- what the check answers: Good passes, Many is '17 with place 0' for the count, Bad is 17 with the place of the first bad record
-pub data Checked (t ws c : List ℕ) (count : ℕ) : ChartAnswer → Type 0 where
-  good : Passes (grammar_of t) ws c count → Checked t ws c count Good
-  many : TooMany c count → Checked t ws c count Many
-  bad : {i : ℕ} → FirstBad (grammar_of t) ws c count i → Checked t ws c count (Bad i)
+-- what the check answers: Ok passes, Many is '17 with place 0' for the count, Bad is 17 with the place of the first bad record
+pub data Checked (t ws c : List ℕ) (count : ℕ) : Result (Unit {0}) ChartFault → Type 0 where
+  good : Passes (grammar_of t) ws c count → Checked t ws c count (Ok tt)
+  many : TooMany c count → Checked t ws c count (Err Many)
+  bad : {i : ℕ} → FirstBad (grammar_of t) ws c count i → Checked t ws c count (Err (Bad i))

@@ -5,57 +5,56 @@ mod order;
 mod records;
 mod ways;
 
-ghost use Rattle.std.specs.Prelude.{◌≡◌, ◌+◌, ◌*◌, ◌≤◌, ◌<◌, length};
-ghost use Rattle.meaning.specs.Table.{got, check_table};
+ghost use Rattle.std.specs.Prelude.{◌≡◌, ◌+◌, ◌*◌, ◌≤◌, length};
 ghost use Rattle.meaning.specs.Decode.{grammar_of};
 ghost use Rattle.meaning.specs.TreeWriting.{Sound};
 ghost use Rattle.phrase.specs.Phrase.{Decides};
 ghost use Rattle.lent.specs.Lent.{Checked};
 
-use crate::order::ordered;
-use crate::records::number;
-use crate::ways::is_way;
-use rules::{Found, find_rule};
+use crate::records::Record;
+use rules::{Table, find_rule};
 
-// What a lent chart is answered: that it passes, that it has too many records, or the first bad one.
-#[derive(Clone, Copy)]
-pub enum ChartAnswer {
-    Good,
+// What is wrong with a lent chart: it has too many records, or the first bad one.
+#[derive(Clone, Copy, PartialEq, Eq, Debug)]
+pub enum ChartFault {
     Many,
     Bad(usize),
 }
 
-// Whether record i of count is sound.
-fn is_sound(table: &[u8], words: &[u16], chart: &[u16], count: usize, i: usize) -> bool
-    requires { (check_table table.now ≡ got tt) × (i < 2000) × (12 * i + 12 ≤ length chart.now) }
-    ensures { Decides (Sound (grammar_of table.now) words.now chart.now count i) result }
+// The most records that a chart may have.
+const MOST: usize = 2000;
+
+// Whether a record of a lent chart is sound among the first count.
+fn is_sound(table: Table, words: &[u16], x: Record, count: usize) -> bool
+    requires { 12 * x.at + 12 ≤ length x.chart.now }
+    ensures { Decides (Sound (grammar_of table.entry.bytes.now) words.now x.entry.chart.now count x.entry.at) result }
 {
-    if !ordered(chart, i) {
+    if !x.is_ordered() {
         return false;
     }
-    let Found::At(rule) = find_rule(table, number(chart, i, 1)) else {
+    let Some(rule) = find_rule(table, x.number(1)) else {
         return false;
     };
-    is_way(table, words, chart, count, rule, i)
+    x.is_way(rule, words, count)
 }
 
-// What the first count records of a lent chart are answered.
-pub fn check_chart(table: &[u8], words: &[u16], chart: &[u16], count: usize) -> ChartAnswer
-    requires { check_table table.now ≡ got tt }
-    ensures { Checked table.now words.now chart.now count result }
+// Whether the first count records of a lent chart are sound, and none too many.
+pub fn check_chart(
+    table: Table,
+    words: &[u16],
+    chart: &[u16],
+    count: usize,
+) -> Result<(), ChartFault>
+    ensures { Checked table.entry.bytes.now words.now chart.now count result }
 {
-    if 2000 < count {
-        return ChartAnswer::Many;
+    if MOST < count || chart.len() / 12 < count {
+        return Err(ChartFault::Many);
     }
-    if chart.len() / 12 < count {
-        return ChartAnswer::Many;
-    }
-    let mut i = 0;
-    while i < count {
-        if !is_sound(table, words, chart, count, i) {
-            return ChartAnswer::Bad(i);
+    for i in 0..count {
+        let record = Record { chart, at: i };
+        if !is_sound(table, words, record, count) {
+            return Err(ChartFault::Bad(i));
         }
-        i += 1;
     }
-    ChartAnswer::Good
+    Ok(())
 }

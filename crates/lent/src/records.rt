@@ -1,60 +1,61 @@
-// The records of a lent chart: their numbers, and the items that they and their daughters state.
+// A record of a lent chart: its numbers, and the items that it and its daughters state.
 ghost use Rattle.std.specs.Prelude.{◌≡◌, ◌+◌, ◌<◌};
 ghost use Rattle.meaning.specs.TreeWriting.{stated_at};
 ghost use Rattle.lent.specs.Lent.{known_of, knowns_of, number_at, daughters_at};
 
-use fields::size;
 use phrase::{Daughters, Item};
+use std::array;
 
-// Number k of record i, from 0; 0 past the chart's end.
-pub(crate) fn number(chart: &[u16], i: usize, k: usize) -> u16
-    requires { (i < 65536) × (k < 12) }
-    ensures { result ≡ number_at chart.now i k }
-{
-    let at = 12 * i + k;
-    if at < chart.len() {
-        return chart[at];
+// A record of a lent chart, by its number from 0.
+#[derive(Clone, Copy)]
+pub(crate) struct Record<'a> {
+    pub chart: &'a [u16],
+    pub at: usize,
+    ghost small: { at < 65536 },
+}
+
+impl Record<'_> {
+    // Number k of the record, from 0; 0 past the chart's end.
+    // Kept: 0 there is what `stated_at` reads, which may not change.
+    pub(crate) fn number(self, k: usize) -> u16
+        requires { k < 12 }
+        ensures { result ≡ number_at self.entry.chart.now self.entry.at k }
+    {
+        self.chart.get(12 * self.at + k).copied().unwrap_or(0)
     }
-    0
-}
 
-// The item that record i states, with its height.
-pub(crate) fn stated(chart: &[u16], i: usize) -> Item
-    requires { i < 65536 }
-    ensures { known_of result ≡ stated_at chart.now i }
-{
-    Item {
-        category: number(chart, i, 0),
-        height: number(chart, i, 2),
-        ends: [
-            number(chart, i, 3),
-            number(chart, i, 4),
-            number(chart, i, 5),
-            number(chart, i, 6),
-            number(chart, i, 7),
-            number(chart, i, 8),
-        ],
+    // The item that the record states, with its height.
+    pub(crate) fn stated(self) -> Item
+        ensures { known_of result ≡ stated_at self.entry.chart.now self.entry.at }
+    {
+        Item {
+            category: self.number(0),
+            height: self.number(2),
+            ends: array::from_fn(|k| self.number(3 + k)),
+        }
     }
-}
 
-// The item that is stated at place k of record i, from 0.
-fn daughter(chart: &[u16], i: usize, k: usize) -> Item
-    requires { (i < 65536) × (k < 3) }
-    ensures { known_of result ≡ stated_at chart.now (number_at chart.now i (9 + k)) }
-{
-    let nth = 9 + k;
-    stated(chart, size(number(chart, i, nth)))
-}
+    // The item that is stated at place k of the record, from 0.
+    fn daughter(self, k: usize) -> Item
+        requires { k < 3 }
+        ensures { known_of result ≡ stated_at self.entry.chart.now (number_at self.entry.chart.now self.entry.at (9 + k)) }
+    {
+        let place = Record {
+            chart: self.chart,
+            at: usize::from(self.number(9 + k)),
+        };
+        place.stated()
+    }
 
-// The items that are stated at the first rank places of record i.
-pub(crate) fn daughters(chart: &[u16], i: usize, rank: usize) -> Daughters
-    requires { i < 65536 }
-    ensures { knowns_of result ≡ daughters_at chart.now i rank }
-{
-    Daughters {
-        count: rank,
-        one: daughter(chart, i, 0),
-        two: daughter(chart, i, 1),
-        three: daughter(chart, i, 2),
+    // The items that are stated at the first rank places of the record.
+    pub(crate) fn daughters(self, rank: usize) -> Daughters
+        ensures { knowns_of result ≡ daughters_at self.entry.chart.now self.entry.at rank }
+    {
+        Daughters {
+            count: rank,
+            one: self.daughter(0),
+            two: self.daughter(1),
+            three: self.daughter(2),
+        }
     }
 }

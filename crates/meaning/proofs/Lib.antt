@@ -26,3 +26,4 @@ pub mod Codes
 pub mod Yes
 pub mod Passing
 pub mod Lending
+pub mod Opened

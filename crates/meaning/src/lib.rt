@@ -6,7 +6,7 @@ ghost use Rattle.std.specs.Prelude.{◌≡◌};
 ghost use Rattle.meaning.specs.Refusals.{code_of, place_of};
 
 // Why a table or a sentence is refused, with the place where it is not plain from the case.
-#[derive(Clone, Copy)]
+#[derive(Clone, Copy, Debug, PartialEq, Eq)]
 pub enum Refusal {
     Short(usize),
     Mark,
@@ -51,19 +51,19 @@ pub fn place_of(r: Refusal) -> usize
     ensures { result ≡ place_of r }
 {
     match r {
-        Refusal::Short(p) => p,
+        Refusal::Short(p)
+        | Refusal::Range(p)
+        | Refusal::Category(p)
+        | Refusal::Function(p)
+        | Refusal::Symbol(p)
+        | Refusal::Twice(p)
+        | Refusal::Missing(p)
+        | Refusal::Start(p)
+        | Refusal::Trailing(p)
+        | Refusal::Odd(p)
+        | Refusal::ZeroWord(p) => p,
         Refusal::Mark => 0,
         Refusal::Version => 3,
-        Refusal::Range(p) => p,
-        Refusal::Category(p) => p,
-        Refusal::Function(p) => p,
-        Refusal::Symbol(p) => p,
-        Refusal::Twice(p) => p,
-        Refusal::Missing(p) => p,
-        Refusal::Start(p) => p,
-        Refusal::Trailing(p) => p,
         Refusal::Long => 64,
-        Refusal::Odd(p) => p,
-        Refusal::ZeroWord(p) => p,
     }
 }

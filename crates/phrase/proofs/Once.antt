@@ -2,38 +2,41 @@
 use Prim.Native.Nat.{ℕ, zero, suc, ◌<◌}
 use mathlib.Core.Path.{◌≡◌, refl, sym, ap, ◌∙◌}
 use mathlib.Core.Bool.{Bool}
-use mathlib.Core.Option.{Option, some as just}
+use mathlib.Core.Option.{Option, none, some as just}
 use mathlib.Core.List.{List}
 use native.Mathlib.Omega.{arith}
 use lib.ListN.{length, get_or}
 use lib.Seq.{ext_get_or}
+use Rattle.std.specs.Prelude.{Option as CodedOption, Some, None, IfSome, ◌≤◌}
+use Rattle.std.specs.Coded.{le_prop}
+use mathlib.Core.HLevel.{Σ_prop_path}
+use denote.Ref.{Bor}
+use Rattle.meaning.specs.Decode.{row_end}
+use Rattle.rules.specs.declared.rule.Row.{Row}
 use Rattle.meaning.specs.Range.{Item}
 use Rattle.meaning.specs.Grammar.{Symbol}
 use Rattle.phrase.specs.declared.ranges.Range.{Range as Coded}
-use Rattle.phrase.specs.declared.ranges.Join.{Join}
-use Rattle.phrase.specs.declared.ranges.Join.TheVariants.{Joined, Apart}
 use Rattle.phrase.specs.declared.items.Item.{Item as CodedItem}
 use Rattle.phrase.specs.declared.items.Daughters.{Daughters}
-use Rattle.phrase.specs.declared.rows.Row.{Row}
-use Rattle.phrase.specs.declared.rows.Starts.{Starts}
-use Rattle.phrase.specs.Phrase.{range_of, join_of, starts_of, item_of, held_of, RowIs, Decides, holds, fails, Has, Next, found, over, start_of}
+use Rattle.std.specs.declared.ops.Range.{Range as Starts}
+use Rattle.phrase.specs.Phrase.{range_of, join_of, starts_of, item_of, held_of, row_place, RowIs, Decides, holds, fails, Has, Next, found, over, start_of}
 use Rattle.phrase.proofs.Runs.{run-once}
 
 -- the structs and enums say no more than what they mean
 pub range-once : (p q : Coded) → range_of p ≡ range_of q → p ≡ q
 range-once p q e = λ i. record { from = (e i).from; to = (e i).to }
 
-pub starts-once : (p q : Starts) → starts_of p ≡ starts_of q → p ≡ q
-starts-once p q e = λ i. record { first = (e i).first; end = (e i).end }
+pub starts-once : (p q : Starts ℕ) → starts_of p ≡ starts_of q → p ≡ q
+starts-once p q e = λ i. record { start = (e i).first; end = (e i).end }
 
 the : {A : Type 0} {p q : A} → just p ≡ just q → p ≡ q
 the e = cc
 
-pub join-once : (r s : Join) → join_of r ≡ join_of s → r ≡ s
-join-once (Joined p) (Joined q) e = ap Joined (range-once p q (the e))
-join-once (Joined p) Apart e = let z : ◌≡◌ {A = ℕ} 0 1 = cc in absurd (omega arith)
-join-once Apart (Joined q) e = let z : ◌≡◌ {A = ℕ} 0 1 = cc in absurd (omega arith)
-join-once Apart Apart e = refl
+pub join-once : (r s : CodedOption Coded) → join_of r ≡ join_of s → r ≡ s
+join-once (Some p) (Some q) e = ap Some (range-once p q (the e))
+join-once (Some p) None e = absurd cc
+join-once None (Some q) e = absurd cc
+join-once None None e = refl
 
 -- an array of six numbers is its three ranges
 pub item-once : (x y : CodedItem) → length x.ends ≡ 6 → length y.ends ≡ 6 → item_of x ≡ item_of y → x.height ≡ y.height → x ≡ y
@@ -58,8 +61,22 @@ decides-once (holds p) (fails n) = absurd (n p)
 decides-once (fails n) (holds p) = absurd (n p)
 decides-once (fails n) (fails m) = refl
 
-pub row-is-once : {t : List ℕ} {rule i : ℕ} {r s : Row} → RowIs t rule i r → RowIs t rule i s → r ≡ s
+row-once : (r s : Row) → r.table ≡ s.table → r.at ≡ s.at → r ≡ s
+row-once r s e f =
+    let P : Bor (List ℕ) × ℕ → Type 0 = λ p. row_end p.0.now p.1 ≤ length p.0.now in
+    let u : ◌≡◌ {A = (p : Bor (List ℕ) × ℕ) × P p} ((r.table, r.at), r.inside) ((s.table, s.at), s.inside) = Σ_prop_path {B = P} (λ p. le_prop) (λ i. (e i, f i)) in
+    ap (λ (p : (p : Bor (List ℕ) × ℕ) × P p). record { table = p.0.0; at = p.0.1; inside = p.1 }) u
+
+pub row-is-once : {t : List ℕ} {rule i : ℕ} {r s : CodedOption Row} → RowIs t rule i r → RowIs t rule i s → row_place r ≡ row_place s
 row-is-once a b = a.there ∙ sym b.there
+
+-- with the table that both are of, two rows are one
+pub row-of-once : (table : Bor (List ℕ)) {rule i : ℕ} (r s : CodedOption Row) → RowIs table.now rule i r → RowIs table.now rule i s
+    → IfSome r (λ w. w.table ≡ table) → IfSome s (λ w. w.table ≡ table) → r ≡ s
+row-of-once table (Some r) (Some s) a b f g = ap Some (row-once r s (f ∙ sym g) (the (row-is-once a b)))
+row-of-once table (Some r) None a b f g = let z : just r.at ≡ none = row-is-once a b in cc
+row-of-once table None (Some s) a b f g = let z : just s.at ≡ none = row-is-once b a in cc
+row-of-once table None None a b f g = refl
 
 module _ {A : Type 0} {key : A → ℕ} {P : A → Type 0} {n : ℕ} (one : (x y : A) → P x → P y → key x ≡ key y → x ≡ y) where
   pub next-once : {o o' : Option A} → Next key P n o → Next key P n o' → o ≡ o'
@@ -69,5 +86,5 @@ module _ {A : Type 0} {key : A → ℕ} {P : A → Type 0} {n : ℕ} (one : (x y
   next-once (over r) (over s) = refl
 
 module _ (ws : List ℕ) (d : Daughters) where
-  pub row-next-once : (ss : List Symbol) {n : ℕ} (r s : Join) → Next start_of (Has ws d ss) n (join_of r) → Next start_of (Has ws d ss) n (join_of s) → r ≡ s
+  pub row-next-once : (ss : List Symbol) {n : ℕ} (r s : CodedOption Coded) → Next start_of (Has ws d ss) n (join_of r) → Next start_of (Has ws d ss) n (join_of s) → r ≡ s
   row-next-once ss r s g h = join-once r s (next-once (λ p q a b e. run-once ws (held_of d) a b e) g h)

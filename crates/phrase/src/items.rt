@@ -1,13 +1,14 @@
 // Items and daughters: their ranges and categories, looked up so that what is not there is empty.
 ghost use Rattle.std.specs.Prelude.{◌≡◌, ◌<◌, get_or};
 ghost use Rattle.meaning.specs.Range as range;
+ghost use Rattle.meaning.specs.Range.{nothing};
 ghost use Rattle.meaning.specs.Giving.{categories};
-ghost use Rattle.phrase.specs.Phrase.{range_of, item_of, items_of, held_of, item_from};
+ghost use Rattle.phrase.specs.Phrase.{range_of, item_of, items_of, daughter_of, held_of, item_from};
 
 use crate::ranges::Range;
-use fields::size;
 
 // A category and its ranges as start and end, with the height of its lowest tree.
+// Kept: document 01 names this form, a struct with the range ends in one array, by value.
 #[derive(Clone, Copy)]
 pub struct Item {
     pub category: u16,
@@ -16,6 +17,8 @@ pub struct Item {
 }
 
 // The first count of three items.
+// Kept: a count, since there is no heap; and a field for each daughter, since an array is a list of any length in a clause, so that each law over
+// daughters would have to say that there are three.
 #[derive(Clone, Copy)]
 pub struct Daughters {
     pub count: usize,
@@ -29,8 +32,8 @@ fn ends_of(from: u16, to: u16) -> Range
     ensures { (result.from ≡ from) × (result.to ≡ to) × (result.from < 65536) }
 {
     Range {
-        from: size(from),
-        to: size(to),
+        from: usize::from(from),
+        to: usize::from(to),
     }
 }
 
@@ -38,55 +41,41 @@ fn ends_of(from: u16, to: u16) -> Range
 pub fn range_at(x: Item, i: usize) -> Range
     ensures { (range_of result ≡ range.at (item_of x) i) × (result.from < 65536) }
 {
-    let e = x.ends;
-    if i == 0 {
-        return ends_of(e[0], e[1]);
+    if i < 3 {
+        ends_of(x.ends[2 * i], x.ends[2 * i + 1])
+    } else {
+        Range::NONE
     }
-    if i == 1 {
-        return ends_of(e[2], e[3]);
+}
+
+// Daughter k, from 0, if there is one.
+fn daughter(d: Daughters, k: usize) -> Option<Item>
+    ensures { daughter_of result ≡ get_or (items_of d) k nothing }
+{
+    if d.count <= k {
+        return None;
     }
-    if i == 2 {
-        return ends_of(e[4], e[5]);
+    match k {
+        0 => Some(d.one),
+        1 => Some(d.two),
+        2 => Some(d.three),
+        _ => None,
     }
-    Range { from: 0, to: 0 }
 }
 
 // Constituent c of daughter k, both from 0; the empty range where there is none.
 pub fn held(d: Daughters, k: usize, c: usize) -> Range
     ensures { (range_of result ≡ held_of d k c) × (result.from < 65536) }
 {
-    if d.count <= k {
-        return Range { from: 0, to: 0 };
-    }
-    if k == 0 {
-        return range_at(d.one, c);
-    }
-    if k == 1 {
-        return range_at(d.two, c);
-    }
-    if k == 2 {
-        return range_at(d.three, c);
-    }
-    Range { from: 0, to: 0 }
+    daughter(d, k).map_or(Range::NONE, |x| range_at(x, c))
 }
 
 // The category of daughter k, from 0; 0 where there is none.
+// Kept: 0, as `Rule::wanted` answers where no daughter is wanted, so that the two compare (`Gives` may not change).
 pub(crate) fn kind_at(d: Daughters, k: usize) -> u16
     ensures { result ≡ get_or (categories (items_of d)) k 0 }
 {
-    if d.count <= k {
-        return 0;
-    }
-    if k == 0 {
-        return d.one.category;
-    }
-    if k == 1 {
-        return d.two.category;
-    }
-    if k == 2 {
-        return d.three.category;
-    }
-    0
+    daughter(d, k).map_or(0, |x| x.category)
 }
 
 // The item of a category with these ranges.
@@ -95,8 +84,8 @@ pub fn item_of(category: u16, height: u16, p: Range, q: Range, r: Range) -> Item
     ensures { (item_of result ≡ item_from category (range_of p, (range_of q, range_of r))) × (result.height ≡ height) }
 {
     Item {
-        category: category,
-        height: height,
+        category,
+        height,
         ends: [
             p.from as u16,
             p.to as u16,

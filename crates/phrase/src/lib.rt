@@ -8,5 +8,5 @@ mod rows;
 
 pub use giving::{fits, kinds};
 pub use items::{Daughters, Item, held, item_of, range_at};
-pub use ranges::{Join, Range, is_range};
-pub use rows::{Row, row_next, row_of};
+pub use ranges::{Range, is_range};
+pub use rows::{row_next, row_of};

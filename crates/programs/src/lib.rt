@@ -1,9 +1,10 @@
-// What the programs share: reading a file, and printing numbers and the records of a chart.
+// What the programs share: reading a file, printing numbers and the records of a chart, and listing what the reader answers.
 #![tactic(auto)]
 
 ghost use Rattle.std.specs.Prelude.{◌≡◌, ◌+◌, ◌*◌, ◌<◌, ◌≤◌, length, get_or, replicate};
 ghost use Rattle.programs.specs.Counts.{IsPrefixLen};
 
+use board::mcg_read;
 use std::fs::File;
 use std::io;
 use std::io::Read;
@@ -18,21 +19,17 @@ pub fn empty_chart() -> [u16; 24000]
 }
 
 // Reads an open file, as far as there is room, and answers how many bytes came; none if it can't be read.
+// Kept: a file that can't be read counts as empty, and what could not fail, here and in `read_file`, still can't.
 pub fn read_open<F: Read>(file: &mut F, bytes: &mut [u8]) -> usize
     ensures { IsPrefixLen result bytes.new }
 {
     let mut n = 0;
+    // Kept: the step is what a read gave, and no index.
     while n < bytes.len() {
         match file.read(&mut bytes[n..]) {
-            Err(_) => {
-                return 0;
-            }
-            Ok(more) => {
-                if more == 0 {
-                    return n;
-                }
-                n += more;
-            }
+            Err(_) => return 0,
+            Ok(0) => break,
+            Ok(more) => n += more,
         }
     }
     n
@@ -45,10 +42,10 @@ pub fn read_file<R: Files>(rt: &R, name: &[u8], bytes: &mut [u8]) -> usize
     let Ok(path) = str::from_utf8(name) else {
         return 0;
     };
-    match File::open(rt, path) {
-        Ok(mut file) => read_open(&mut file, bytes),
-        Err(_) => 0,
-    }
+    let Ok(mut file) = File::open(rt, path) else {
+        return 0;
+    };
+    read_open(&mut file, bytes)
 }
 
 // Prints bytes as they are.
@@ -62,34 +59,17 @@ pub fn print(rt: &impl Print, n: u64, after: u8) -> io::Result<()> {
     say(rt, &[after])
 }
 
-// What stands after the number at a place of the chart: a space, or a line's end after a record's last.
-fn after(at: usize) -> u8 {
-    if at % 12 == 11 {
-        return b'\n';
-    }
-    b' '
-}
-
-fn wide(x: u16) -> u64
-    ensures { result ≡ x }
-{
-    x as u64
+// What stands after a number of a line: a space, or the line's end after the last.
+fn ended(next: usize, all: usize) -> u8 {
+    if next < all { b' ' } else { b'\n' }
 }
 
 // Prints numbers, a line.
 pub fn print_numbers(rt: &impl Print, numbers: &[u16]) -> io::Result<()> {
     for (at, number) in numbers.iter().enumerate() {
-        print(rt, wide(*number), ended(at + 1, numbers.len()))?;
+        print(rt, u64::from(*number), ended(at + 1, numbers.len()))?;
     }
     Ok(())
-}
-
-// What stands after a number of a line: a space, or the line's end after the last.
-fn ended(next: usize, all: usize) -> u8 {
-    if next < all {
-        return b' ';
-    }
-    b'\n'
 }
 
 // The height of the record at a place of the chart; 0 past its end, and past 2,000 records.
@@ -97,13 +77,12 @@ pub fn height_at(chart: &[u16], place: u64) -> u64
     ensures record_height { place < 2000 → result ≡ get_or chart.now (12 * place + 2) 0 }
     ensures beyond { 2000 ≤ place → result ≡ 0 }
 {
-    if place < 2000 {
-        let at = 12 * (place as usize) + 2;
-        if at < chart.len() {
-            return wide(chart[at]);
-        }
+    if 2000 <= place {
+        return 0;
     }
-    0
+    chart
+        .get(12 * place as usize + 2)
+        .map_or(0, |height| u64::from(*height))
 }
 
 // Prints the three numbers of an answer, a line.
@@ -115,11 +94,17 @@ pub fn print_answer(rt: &impl Print, answer: &[u64; 3]) -> io::Result<()> {
 
 // Prints the first records of a chart, a line for each.
 pub fn print_records(rt: &impl Print, chart: &[u16], count: u64) -> io::Result<()> {
-    for (at, number) in chart.iter().enumerate() {
-        if count <= (at / 12) as u64 {
-            return Ok(());
-        }
-        print(rt, wide(*number), after(at))?;
+    for record in chart.chunks(12).take(count as usize) {
+        print_numbers(rt, record)?;
     }
     Ok(())
+}
+
+// Reads the words by the table, with allowance 0, and prints code, place and count, then each record.
+pub fn list(rt: &impl Print, table: &[u8], words: &[u8]) -> io::Result<()> {
+    let mut chart = empty_chart();
+    let mut answer = [0u64; 3];
+    mcg_read(table, words, 0, &mut chart, &mut answer);
+    print_answer(rt, &answer)?;
+    print_records(rt, &chart, answer[2])
 }

@@ -12,9 +12,9 @@ use Rattle.phrase.specs.Row.{is_range}
 use Rattle.meaning.specs.Range.{Range, none, IsRange}
 use Rattle.meaning.proofs.Joining.{range-path}
 use Rattle.phrase.proofs.Joins.{Proper}
-use Rattle.reach.specs.Bits.{Bit, Single, Both, Next, Lent}
+use Rattle.reach.specs.Bits.{Bit, Single, Both, Lent}
 use Rattle.reach.specs.declared.places.Places.{Places}
-use Rattle.reach.specs.Reach.{Known, empty, words, Upward, Turns, WordAt, Occurs, After, OneWord, Exactly, From, Union, MayBe, beginning, passed}
+use Rattle.reach.specs.Reach.{Known, empty, words, Upward, Turns, WordAt, After, OneWord, Exactly, From, Union, MayBe, beginning, passed}
 use Rattle.reach.proofs.Digits.{no-bit}
 use Rattle.reach.proofs.Turning.{span, Source, from_place, from_start, stays, turns}
 use Rattle.reach.proofs.Sets.{true-not}
@@ -74,12 +74,6 @@ word-proper ws w r o = inr (omega (arith, o.one))
 pub after_none : (ws : List ℕ) (w : ℕ) {a : ℕ} → a ≡ 0 → After ws w a 0
 after_none ws w e = record { whole = λ i b h. absurd (no-bit i (subst (λ (n : ℕ). Bit n i) e b)); sound = λ j b. absurd (no-bit j b) }
 
-pub after_next : (ws : List ℕ) (w : ℕ) {a m r : ℕ} → Occurs ws w m → Next a m r → After ws w a r
-after_next ws w {a} {m} {r} o n = record {
-  whole = λ i b h. n.whole i b (o.whole (suc i) h.inside h.is);
-  sound = λ j b. let (i, e, c, d) = n.sound j b in let (l, q) = o.sound j d in (i, e, c, record { inside = l; is = q });
-}
-
 module _ (ws : List ℕ) (w s : ℕ) (p : Places) {on : ℕ} (n : After ws w p.ends on) where
   word_none : OneWord ws w none → ⊥
   word_none o = omega (arith, o.one)
@@ -117,9 +111,13 @@ module _ (p : Places) (s at : ℕ) where
   pub may-pass : (at ≡ 0 → ⊥) → Bit p.ends (at - 1) → MayBe p s at
   may-pass n c = passed (at - 1) (omega arith) c
 
-  pub may-not : ((p.still ≡ true) × (at ≡ s) → ⊥) → (Bit p.ends (at - 1) → ⊥) → MayBe p s at → ⊥
-  may-not n m (beginning o e) = n (o, e)
-  may-not n m (passed i e c) = let q : i ≡ at - 1 = omega arith in m (subst (Bit p.ends) q c)
+  pub not-started : ((p.still ≡ true) × (at ≡ s → ⊥)) ⊎ (p.still ≡ false) → (p.still ≡ true) × (at ≡ s) → ⊥
+  not-started (inl (o, n)) (_, e) = n e
+  not-started (inr n) (o, _) = true-not p.still o n
+
+  pub may-end : ((p.still ≡ true) × (at ≡ s) → ⊥) → MayBe p s at → Bit p.ends (at - 1)
+  may-end n (beginning o e) = absurd (n (o, e))
+  may-end n (passed i e c) = let q : i ≡ at - 1 = omega arith in subst (Bit p.ends) q c
 
   pub may-not-zero : ((p.still ≡ true) × (at ≡ s) → ⊥) → at ≡ 0 → MayBe p s at → ⊥
   may-not-zero n z (beginning o e) = n (o, e)

@@ -10,26 +10,17 @@ use mathlib.Core.List.Memᴰ.{append_right as mem-right}
 use mathlib.Core.List.Memᴰ.{eq_of_singleton as mem-one}
 use mathlib.Core.List.Memᴰ.{head as here}
 use Rattle.store.proofs.Sets.{next, take_all}
-use Prim.Native.Nat.{ℕ, ◌+◌, ◌*◌, ◌-◌, ◌≤◌, ◌<◌}
+use Prim.Native.Nat.{ℕ, ◌+◌, ◌≤◌, ◌<◌}
 use native.Mathlib.Omega.{arith}
 use lib.Dec.{eqb}
 use lib.ListN.{length, get_or, set, length-set, take}
 use lib.Seq.{get_or-set_same, get_or-set_other}
 use borrow.Author.Tests.{eqb-true, eqb-false}
 use Rattle.reach.specs.Bits.{Bit, Single, Both}
-use Rattle.reach.specs.declared.known.First.{First}
-use Rattle.reach.specs.Mirror.{IsFirst, Marks, with_words, with_none, Entered}
+use Rattle.reach.specs.Mirror.{Marks, with_words, with_none, Entered}
 
 abbrev One : ℕ → ℕ → Type 0
 One c d = d ≡ c
-
--- where a code is entered
-module _ {c : ℕ} {r : First} (x : IsFirst c r) where
-  pub spot-none : r.to ≡ 0 → Marks c 0 (r.category - 1)
-  spot-none z = with_none refl (ap (λ (y : ℕ). y - 1) x.category) (sym x.to ∙ z)
-
-  pub spot-words : (r.to ≡ 0 → ⊥) → Marks c (r.category * 64 + r.from) (r.to - 1)
-  spot-words n = with_words (omega (arith, x.category, x.from)) (omega (arith, x.to))
 
 -- a code is entered at one bit
 one-mark : {c n i m j : ℕ} → Marks c n i → Marks c m j → (n ≡ m) × (i ≡ j)

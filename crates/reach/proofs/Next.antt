@@ -6,6 +6,7 @@ use mathlib.Core.List.{List}
 use Prim.Native.Nat.{ℕ, suc, ◌+◌, ◌*◌, ◌-◌, ◌/◌, ◌%◌, ◌^◌, ◌≤◌, ◌<◌}
 use native.Mathlib.Omega.{arith}
 use lib.ListN.{get_or}
+use Rattle.std.specs.Prelude.{Option as CodedOption, Some, None, MatchOption}
 use Rattle.meaning.specs.Range.{Range, none}
 use Rattle.meaning.specs.Grammar.{Symbol}
 use Rattle.meaning.specs.Giving.{Run}
@@ -13,34 +14,18 @@ use Rattle.meaning.proofs.Joining.{range-path}
 use Rattle.store.proofs.Laws.{lt-or-ge}
 use Rattle.phrase.specs.Phrase.{Next, found, over}
 use Rattle.reach.specs.Bits.{Bit}
-use Rattle.reach.specs.Reach.{RowSet, InWords, InSets, in_none, in_words, number_of, FirstBit}
+use Rattle.reach.specs.Reach.{RowSet, InWords, InSets, in_none, in_words, number_of, FirstBit, first_bit, no_more}
 use Rattle.reach.proofs.Digits.{no-bit, bit-low}
 use Rattle.reach.proofs.Turning.{span}
 
 -- the first bit
-pub record Unset (set from i : ℕ) : Type 0 where
-  pub most : i ≤ 64
-  pub least : from ≤ i
-  pub none_yet : (j : ℕ) → from ≤ j → j < i → Bit set j → ⊥
+pub bit-first : (set from : ℕ) (r : CodedOption ℕ)
+    → MatchOption r ((k : ℕ) → from ≤ k → k < 64 → Bit set k → ⊥) (λ i. (from ≤ i) × (i < 64) × Bit set i × ((k : ℕ) → from ≤ k → k < i → Bit set k → ⊥)) → FirstBit set from r
+bit-first set from (Some i) (l, h, b, f) = first_bit h b l f
+bit-first set from None f = no_more f
 
-pub unset-none : (set from : ℕ) → from ≤ 64 → Unset set from from
-unset-none set from h = record { most = h; least = omega arith; none_yet = λ j a b. absurd (omega arith) }
-
-pub unset-on : {set from i : ℕ} → i < 64 → Unset set from i → (Bit set i → ⊥) → Unset set from (i + 1)
-unset-on {set} {from} {i} h u n = record {
-  most = omega arith;
-  least = omega (arith, u.least);
-  none_yet = λ j a b c. ⊎_elim (λ k. u.none_yet j a k c) (λ k. let e : j ≡ i = omega arith in n (subst (Bit set) e c)) (lt-or-ge j i);
-}
-
-pub bit-first : {set from i : ℕ} → Unset set from i → Bit set i → FirstBit set from i
-bit-first u b = record { most = u.most; there = λ _. (b, u.least); before = u.none_yet }
-
-pub bit-zero : {set : ℕ} (from : ℕ) → set ≡ 0 → FirstBit set from 64
-bit-zero {set} from z = record { most = omega arith; there = λ h. absurd (omega arith); before = λ i a b c. no-bit i (subst (λ (n : ℕ). Bit n i) z c) }
-
-pub bit-none : {set from i : ℕ} → 64 ≤ i → Unset set from i → FirstBit set from i
-bit-none h u = record { most = u.most; there = λ k. absurd (omega arith); before = u.none_yet }
+pub bit-zero : {set : ℕ} (from : ℕ) → set ≡ 0 → FirstBit set from None
+bit-zero {set} from z = no_more (λ i a b c. no-bit i (subst (λ (n : ℕ). Bit n i) z c))
 
 -- ranges with words
 -- each set is of numbers below 64
@@ -63,46 +48,35 @@ module _ (n : ℕ) (sets : List ℕ) (start end : ℕ) where
     pub passed : (r : Range) → In r → key ≤ number_of r → (s < r.from) ⊎ ((s ≡ r.from) × (from < r.to))
     pub holds : (i : ℕ) → from ≤ i → key ≤ s * 65 + suc i
 
-  pub gone-first : {from : ℕ} → Low sets → end ≤ 64 → (end ≡ 0 → from ≡ 0) → ((end ≡ 0 → ⊥) → end ≡ from + 1) → Gone start from
-  gone-first {from} low m a b = record { most = omega (arith, near); passed = by; holds = λ i h. omega (arith, near) }
+  pub gone-first : {from : ℕ} → Low sets → end ≤ 64 → from ≡ end - 1 → Gone start from
+  gone-first {from} low m e = record { most = omega arith; passed = by; holds = λ i h. omega arith }
     where
-      -- one less than the end, or 0
-      near : (end ≤ from + 1) × (from ≤ end) × ((from ≡ end) → end ≡ 0)
-      near = ⊎_elim
-          (λ k. let z : end ≡ 0 = omega arith in let y = a z in (omega arith, omega arith, λ _. z))
-          (λ k. let e = b (λ z. omega arith) in (omega arith, omega arith, λ q. absurd (omega arith)))
-          (lt-or-ge end 1)
-
       by : (r : Range) → In r → key ≤ number_of r → (start < r.from) ⊎ ((start ≡ r.from) × (from < r.to))
       by r w h =
           let k = low r.from w.last w.bit in
-          let e = w.end in
-          ⊎_elim (λ q. inl q) (λ q. inr (omega arith, after (omega arith))) (lt-or-ge start r.from)
-        where
-          after : end ≤ r.to → from < r.to
-          after l = ⊎_elim (λ k. let z = a (omega arith) in omega (arith, w.end)) (λ k. let z = b (λ z. omega arith) in omega arith) (lt-or-ge end 1)
+          let l = w.end in
+          ⊎_elim (λ q. inl q) (λ q. inr (omega arith, omega arith)) (lt-or-ge start r.from)
 
-  pub gone-found : {s from i : ℕ} → Low sets → s < n → Gone s from → FirstBit (get_or sets s 0) from i → i < 64 → Next number_of In key (just (span s (i + 1)))
-  gone-found {s} {from} {i} low l g f h =
-      let (b, k) = f.there h in
+  pub gone-found : {s from i : ℕ} → Low sets → s < n → Gone s from → FirstBit (get_or sets s 0) from (Some i) → Next number_of In key (just (span s (i + 1)))
+  gone-found {s} {from} {i} low l g (first_bit h b k f) =
       let w : In (span s (i + 1)) = record { low = l; last = i; end = omega arith; bit = b } in
       found {x = span s (i + 1)} w (omega (arith, g.holds i k)) (λ y x q. by y x (g.passed y x q))
     where
       by : (y : Range) → In y → (s < y.from) ⊎ ((s ≡ y.from) × (from < y.to)) → number_of (span s (i + 1)) ≤ number_of y
       by y w (inl k) = omega (arith, w.end)
       by y w (inr (e, k)) = ⊎_elim
-          (λ u. absurd (f.before w.last (omega (arith, w.end)) u (subst (λ (v : ℕ). Bit (get_or sets v 0) w.last) (sym e) w.bit)))
+          (λ u. absurd (f w.last (omega (arith, w.end)) u (subst (λ (v : ℕ). Bit (get_or sets v 0) w.last) (sym e) w.bit)))
           (λ u. omega (arith, w.end))
           (lt-or-ge w.last i)
 
-  pub gone-on : {s from i : ℕ} → Low sets → Gone s from → FirstBit (get_or sets s 0) from i → 64 ≤ i → Gone (s + 1) 0
-  gone-on {s} {from} {i} low g f h = record { most = omega arith; passed = λ r x q. by r x (g.passed r x q); holds = λ j k. omega (arith, g.holds from (omega arith), g.most) }
+  pub gone-on : {s from : ℕ} → Low sets → Gone s from → FirstBit (get_or sets s 0) from None → Gone (s + 1) 0
+  gone-on {s} {from} low g (no_more f) = record { most = omega arith; passed = λ r x q. by r x (g.passed r x q); holds = λ j k. omega (arith, g.holds from (omega arith), g.most) }
     where
       by : (r : Range) → In r → (s < r.from) ⊎ ((s ≡ r.from) × (from < r.to)) → (s + 1 < r.from) ⊎ ((s + 1 ≡ r.from) × (0 < r.to))
       by r w (inl k) = ⊎_elim (λ u. inl u) (λ u. inr (omega arith, omega (arith, w.end))) (lt-or-ge (s + 1) r.from)
       by r w (inr (e, k)) =
           let u = low r.from w.last w.bit in
-          absurd (f.before w.last (omega (arith, w.end)) (omega arith) (subst (λ (v : ℕ). Bit (get_or sets v 0) w.last) (sym e) w.bit))
+          absurd (f w.last (omega (arith, w.end)) (omega arith) (subst (λ (v : ℕ). Bit (get_or sets v 0) w.last) (sym e) w.bit))
 
   pub gone-all : {s from : ℕ} → n ≤ s → Gone s from → Next number_of In key apart
   gone-all {s} {from} h g = over (λ r x. ⊎_elim (λ k. k) (λ k. by r x (g.passed r x k)) (lt-or-ge (number_of r) key))

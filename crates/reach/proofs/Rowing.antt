@@ -3,22 +3,21 @@ use mathlib.Core.Path.{◌≡◌, refl, sym, ap, ◌∙◌, subst}
 use mathlib.Core.Logic.{◌⊎◌, inl, inr}
 use mathlib.Core.Bool.{true}
 use mathlib.Core.List.{List, [], ◌∷◌}
-use Prim.Native.Nat.{ℕ, zero, suc, ◌+◌, ◌-◌, ◌≤◌, ◌<◌}
+use Prim.Native.Nat.{ℕ, suc, ◌+◌, ◌*◌, ◌-◌, ◌≤◌, ◌<◌}
 use native.Mathlib.Omega.{arith}
-use borrow.Author.Tests.{eq-eqb, ne_eqb}
 use Rattle.meaning.specs.Range.{Range, none, IsRange, Spans}
 use Rattle.meaning.specs.Grammar.{Symbol, word, part}
 use Rattle.meaning.specs.Giving.{Run}
-use Rattle.meaning.specs.Table.{byte, number}
+use Rattle.meaning.specs.Table.{byte}
 use Rattle.meaning.specs.Decode.{several, symbol_at, row_at}
 use Rattle.meaning.proofs.Joining.{Join, left, right, next, range-path, none-join, join→joined, joined→join}
 use Rattle.meaning.proofs.Spans.{measure, one_word, word_at}
 use Rattle.phrase.proofs.Joins.{Proper, Fold, stop, onto, run→fold, fold→run}
-use Rattle.phrase.proofs.Turns.{left_of, whole_row}
+use Rattle.phrase.proofs.Turns.{left_of, left_all, left_on}
 use Rattle.reach.specs.Bits.{Bit}
 use Rattle.reach.specs.declared.places.Places.{Places}
 use Rattle.reach.specs.declared.rows.Free.{Free}
-use Rattle.reach.specs.Reach.{Placed, any, chosen, May, Known, empty, words, Fair, free_of, Asked, Nowhere, Holds, unmoved, moved, Onto, Turns, Reaches, OneWord, Exactly}
+use Rattle.reach.specs.Reach.{Placed, any, chosen, May, Known, empty, words, Fair, free_of, Nowhere, Holds, unmoved, moved, Onto, Turns, Reaches, OneWord, Exactly}
 use Rattle.reach.proofs.Digits.{no-bit}
 use Rattle.reach.proofs.Sets.{true-not}
 
@@ -39,35 +38,35 @@ turns_as {P} {Q} {s} {p} f g t = record { sound = λ r h. to (t.sound r h); whol
     back o = record { before = o.before; next = o.next; held = o.held; stands = g o.next o.stands; joins = o.joins; starts = o.starts }
 
 -- the three kinds of symbols
-module _ (t ws ends : List ℕ) (f : Free) (e : ℕ → ℕ → Range) (s at : ℕ) (p q : Places) where
+module _ (ws ends : List ℕ) (f : Free) (e : ℕ → ℕ → Range) (s : ℕ) (p q : Places) where
   abbrev P : Symbol → Range → Type 0
   P = May ws (Known ends) (free_of f) e
 
-  pub turn-word : {n : ℕ} → byte t at ≡ 0 → n ≡ number t (at + 1) → Turns (OneWord ws n) s p q → Turns (P (symbol_at t at)) s p q
-  unfolding symbol_at May
-  turn-word {n} z k h = rw (eq-eqb (byte t at) 0 z, ← k) (turns_as to back h)
+  pub turn-word : {x : Symbol} {w : ℕ} → x ≡ word w → Turns (OneWord ws w) s p q → Turns (P x) s p q
+  unfolding May
+  turn-word {w = w} g h = rw g (turns_as to back h)
     where
-      to : (r : Range) → OneWord ws n r → Spans ws r (n ∷ [])
-      to r h = subst (λ (x : Range). Spans ws x (n ∷ [])) (range-path refl (sym h.one)) (one_word h.there.inside h.there.is)
+      to : (r : Range) → OneWord ws w r → Spans ws r (w ∷ [])
+      to r h = subst (λ (x : Range). Spans ws x (w ∷ [])) (range-path refl (sym h.one)) (one_word h.there.inside h.there.is)
 
-      back : (r : Range) → Spans ws r (n ∷ []) → OneWord ws n r
+      back : (r : Range) → Spans ws r (w ∷ []) → OneWord ws w r
       back r h = let (i, k, w) = word_at h in record { there = record { inside = i; is = w }; one = k }
 
-  module _ (z : byte t at ≡ 0 → ⊥) {k : ℕ} (kind : k ≡ byte t at - 1) where
-    pub turn-part : {c : ℕ} {x : Range} → free_of f k ≡ 0 → x ≡ e k c → c ≡ number t (at + 1) - 1 → Turns (Exactly ws x) s p q → Turns (P (symbol_at t at)) s p q
-    unfolding symbol_at May
-    turn-part {c} {x} g i n h = rw (ne_eqb (byte t at) 0 z, ← kind, ← n) (turns_as to back h)
+  module _ {x : Symbol} {k c : ℕ} (is : x ≡ part k c) where
+    pub turn-part : {y : Range} → free_of f k ≡ 0 → y ≡ e k c → Turns (Exactly ws y) s p q → Turns (P x) s p q
+    unfolding May
+    turn-part {y} g i h = rw is (turns_as to back h)
       where
-        to : (r : Range) → Exactly ws x r → Placed ws (Known ends) (free_of f k) (e k c) r
+        to : (r : Range) → Exactly ws y r → Placed ws (Known ends) (free_of f k) (e k c) r
         to r h = chosen g (h.same ∙ i) h.range
 
-        back : (r : Range) → Placed ws (Known ends) (free_of f k) (e k c) r → Exactly ws x r
+        back : (r : Range) → Placed ws (Known ends) (free_of f k) (e k c) r → Exactly ws y r
         back r (any l m j) = absurd (omega arith)
         back r (chosen l m j) = record { same = m ∙ sym i; range = j }
 
-    pub turn-free : {A : ℕ} → Fair ws ends → A ≡ free_of f k → (A ≡ 0 → ⊥) → Turns (Known ends A) s p q → Turns (P (symbol_at t at)) s p q
-    unfolding symbol_at May
-    turn-free {A} d g n h = rw (ne_eqb (byte t at) 0 z, ← kind) (turns_as to back (subst (λ (m : ℕ). Turns (Known ends m) s p q) g h))
+    pub turn-free : {A : ℕ} → Fair ws ends → A ≡ free_of f k → (A ≡ 0 → ⊥) → Turns (Known ends A) s p q → Turns (P x) s p q
+    unfolding May
+    turn-free {A} d g n h = rw is (turns_as to back (subst (λ (m : ℕ). Turns (Known ends m) s p q) g h))
       where
         real : (r : Range) → Known ends (free_of f k) r → IsRange ws r
         real r (empty e b) = inl e
@@ -76,10 +75,10 @@ module _ (t ws ends : List ℕ) (f : Free) (e : ℕ → ℕ → Range) (s at : �
             let v = d.within (free_of f k) r.from i (omega arith) l b in
             inr (omega arith, omega arith)
 
-        to : (r : Range) → Known ends (free_of f k) r → Placed ws (Known ends) (free_of f k) (e k (number t (at + 1) - 1)) r
+        to : (r : Range) → Known ends (free_of f k) r → Placed ws (Known ends) (free_of f k) (e k c) r
         to r h = any (omega arith) h (real r h)
 
-        back : (r : Range) → Placed ws (Known ends) (free_of f k) (e k (number t (at + 1) - 1)) r → Known ends (free_of f k) r
+        back : (r : Range) → Placed ws (Known ends) (free_of f k) (e k c) r → Known ends (free_of f k) r
         back r (any l m j) = m
         back r (chosen l m j) = absurd (n (g ∙ l))
 
@@ -198,40 +197,31 @@ module _ {P : Symbol → Range → Type 0} (proper : (s : Symbol) (p : Range) �
       never (moved f i t b) = no-bit i (subst (λ (m : ℕ). Bit m i) n.no_end b)
 
 -- the symbols that are left of a row
-pub symbols-on : (t : List ℕ) (n place : ℕ) → 0 < n → left_of t n place ≡ symbol_at t place ∷ left_of t (n - 1) (place + 3)
+symbols-on : (t : List ℕ) (n place : ℕ) {x : Symbol} → 0 < n → x ≡ symbol_at t place → left_of t n place ≡ x ∷ left_of t (n - 1) (place + 3)
 unfolding several
-symbols-on t n place h = let q : n ≡ suc (n - 1) = omega arith in ap (λ (m : ℕ). left_of t m place) q
+symbols-on t n place h g = let q : n ≡ suc (n - 1) = omega arith in ap (λ (m : ℕ). left_of t m place) q ∙ ap (λ (x : Symbol). x ∷ left_of t (n - 1) (place + 3)) (sym g)
 
-pub symbols-end : (t : List ℕ) (n place : ℕ) → n ≡ 0 → left_of t n place ≡ []
+symbols-end : (t : List ℕ) (n place : ℕ) → n ≡ 0 → left_of t n place ≡ []
 unfolding several
 symbols-end t n place h = rw h
 
-pub free-past : (f : Free) (k : ℕ) → (k ≡ 0 → ⊥) → (k ≡ 1 → ⊥) → (k ≡ 2 → ⊥) → 0 ≡ free_of f k
-free-past f zero a b c = absurd (a refl)
-free-past f (suc zero) a b c = absurd (b refl)
-free-past f (suc (suc zero)) a b c = absurd (c refl)
-free-past f (suc (suc (suc k))) a b c = refl
+-- the loop over the symbols of a row
+module _ (t ws : List ℕ) (K : ℕ → Range → Type 0) (free : ℕ → ℕ) (e : ℕ → ℕ → Range) (s at : ℕ) where
+  abbrev pub Along : ℕ → Places → Type 0
+  Along i p = Way (may-proper ws K free e) s (row_at t at) (left_of t (byte t at - i) (at + 1 + 3 * i)) p
 
-pub free-small : {ws ends : List ℕ} {f : Free} (k : ℕ) → Asked ws ends f → free_of f k ≤ 64
-free-small zero a = a.one
-free-small (suc zero) a = a.two
-free-small (suc (suc zero)) a = a.three
-free-small (suc (suc (suc k))) a = omega arith
+  pub along-none : Along 0 (record { ends = 0; still = true })
+  along-none = rw left_all (way-none (may-proper ws K free e) s (row_at t at))
 
--- the loop over the bytes of a row
-module _ (t ws : List ℕ) (K : ℕ → Range → Type 0) (free : ℕ → ℕ) (e : ℕ → ℕ → Range) (s place : ℕ) where
-  abbrev pub Along : ℕ → ℕ → Places → Type 0
-  Along n at p = Way (may-proper ws K free e) s (row_at t place) (left_of t n at) p
+  pub along-on : (i : ℕ) {p q : Places} {x : Symbol} → i < byte t at → x ≡ symbol_at t (at + 1 + 3 * i) → Along i p → Turns (May ws K free e x) s p q → Along (i + 1) q
+  along-on i {p} {x = x} h g w u =
+      let one = symbols-on t (byte t at - i) (at + 1 + 3 * i) (omega arith) g in
+      rw left_on (way_on (may-proper ws K free e) (subst (λ l. Way (may-proper ws K free e) s (row_at t at) l p) one w) u)
 
-  pub along-none : {n : ℕ} → n ≡ byte t place → Along n (place + 1) (record { ends = 0; still = true })
-  along-none {n} h =
-      subst (λ l. Way (may-proper ws K free e) s (row_at t place) l (record { ends = 0; still = true })) (sym (whole_row t place n h)) (way-none (may-proper ws K free e) s (row_at t place))
+  pub along-out : (i : ℕ) {p : Places} → Nowhere p → Along i p → Reaches (May ws K free e) (row_at t at) s p
+  along-out i h w = way_out (may-proper ws K free e) h w
 
-  pub along-on : (n at : ℕ) {p q : Places} → 0 < n → Along n at p → Turns (May ws K free e (symbol_at t at)) s p q → Along (n - 1) (at + 3) q
-  along-on n at {p} h w u = way_on (may-proper ws K free e) (subst (λ l. Way (may-proper ws K free e) s (row_at t place) l p) (symbols-on t n at h) w) u
-
-  pub along-out : (n at : ℕ) {p : Places} → Nowhere p → Along n at p → Reaches (May ws K free e) (row_at t place) s p
-  along-out n at h w = way_out (may-proper ws K free e) h w
-
-  pub along-end : (n at : ℕ) {p : Places} → n ≡ 0 → Along n at p → Reaches (May ws K free e) (row_at t place) s p
-  along-end n at {p} h w = way_end (may-proper ws K free e) (subst (λ l. Way (may-proper ws K free e) s (row_at t place) l p) (symbols-end t n at h) w)
+  pub along-end : (i : ℕ) {p : Places} → byte t at ≤ i → Along i p → Reaches (May ws K free e) (row_at t at) s p
+  along-end i {p} h w =
+      let none_left = symbols-end t (byte t at - i) (at + 1 + 3 * i) (omega arith) in
+      way_end (may-proper ws K free e) (subst (λ l. Way (may-proper ws K free e) s (row_at t at) l p) none_left w)

@@ -6,7 +6,7 @@ use mathlib.Core.List.{List}
 use Prim.Native.Nat.{ℕ, zero, suc, ◌+◌, ◌/◌, ◌%◌, ◌≤◌, ◌<◌}
 use native.Mathlib.Omega.{arith}
 use lib.Dec.{eqb, ltb}
-use lib.ListN.{length, get_or, get_or-eq_default}
+use lib.ListN.{length, get_or}
 use borrow.Author.Tests.{eqb-true, eq-eqb, ltb-true, ltb-false}
 use Rattle.reach.specs.Bits.{Bit, Single, Both, Lent}
 use Rattle.reach.specs.Reach.{Occurs, Here, From, Union}
@@ -20,21 +20,10 @@ module _ (l : List ℕ) (at : ℕ) (b : Bool) where
   pub lent-not : b ≡ false → Lent l at b 0
   lent-not e = record { whole = λ i t c. true-not b t e; sound = λ i c. absurd (no-bit i c) }
 
-  pub lent-past : length l ≤ at → Lent l at b 0
-  lent-past h =
-      let e : get_or l at 0 ≡ 0 = get_or-eq_default l 0 {n = at} h in
-      record { whole = λ i t c. subst (λ (n : ℕ). Bit n i) e c; sound = λ i c. absurd (no-bit i c) }
-
-  pub lent_is : b ≡ true → Lent l at b (get_or l at 0)
-  lent_is e = record { whole = λ i t c. c; sound = λ i c. (e, c) }
-
 -- the places of a word
 module _ (ws : List ℕ) (w : ℕ) where
-  pub here-not : (i : ℕ) → (get_or ws i 0 ≡ w → ⊥) → Here ws w i 0
+  here-not : (i : ℕ) → (get_or ws i 0 ≡ w → ⊥) → Here ws w i 0
   here-not i n = record { sound = λ j b. absurd (no-bit j b); whole = λ e. absurd (n e) }
-
-  pub here-is : (i m : ℕ) → get_or ws i 0 ≡ w → Single i m → Here ws w i m
-  here-is i m e s = record { sound = λ j b. (s.only j b, e); whole = λ _. s.it }
 
   pub record Seen (i m : ℕ) : Type 0 where
     pub within : i ≤ length ws
@@ -44,7 +33,7 @@ module _ (ws : List ℕ) (w : ℕ) where
   pub seen_none : Seen 0 0
   seen_none = record { within = omega arith; sound = λ j b. absurd (no-bit j b); whole = λ j h e. absurd (omega arith) }
 
-  pub seen-on : {i m h r : ℕ} → i < length ws → Seen i m → Here ws w i h → Both m h r → Seen (i + 1) r
+  seen-on : {i m h r : ℕ} → i < length ws → Seen i m → Here ws w i h → Both m h r → Seen (i + 1) r
   seen-on {i} {m} {h} {r} l s n b = record {
     within = omega arith;
     sound = λ j c. was j (b.either j c);
@@ -64,6 +53,13 @@ module _ (ws : List ℕ) (w : ℕ) where
 
       set : (j : ℕ) → j < i + 1 → get_or ws j 0 ≡ w → Bit r j
       set j k e = split j (ltb j i) refl k e
+
+  -- the sentence has the word at the next place, or it does not
+  pub seen-word : {i m o r : ℕ} → i < length ws → Seen i m → get_or ws i 0 ≡ w → Single i o → Both m o r → Seen (i + 1) r
+  seen-word l s e o b = seen-on l s (record { sound = λ j c. (o.only j c, e); whole = λ f. o.it }) b
+
+  pub seen-other : {i m : ℕ} → i < length ws → Seen i m → (get_or ws i 0 ≡ w → ⊥) → Seen (i + 1) m
+  seen-other {i} {m} l s n = seen-on l s (here-not i n) (record { left = λ j c. c; right = λ j c. absurd (no-bit j c); either = λ j c. inl c })
 
   pub seen_all : {i m : ℕ} → length ws ≤ i → Seen i m → Occurs ws w m
   seen_all {i} {m} h s = record { sound = λ j b. was j (s.sound j b); whole = λ j k e. s.whole j (omega arith) e }

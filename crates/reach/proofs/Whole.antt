@@ -2,11 +2,12 @@
 use mathlib.Core.Path.{◌≡◌, refl, sym, ap, ◌∙◌, subst}
 use mathlib.Core.Logic.{◌⊎◌, inl, inr}
 use mathlib.Core.Bool.{Bool, true, false}
-use mathlib.Core.List.{List}
+use mathlib.Core.List.{List, ◌++◌}
 use Prim.Native.Nat.{ℕ, suc, ◌+◌, ◌≤◌, ◌<◌}
 use native.Mathlib.Omega.{arith}
 use lib.Dec.{ltb}
-use lib.ListN.{length, get_or, set, length-set}
+use mir.Val.{bool_byte}
+use lib.ListN.{length, get_or, set, length-set, get_or-append}
 use lib.Seq.{get_or-set_same, get_or-set_other}
 use borrow.Author.Tests.{ltb-true, ltb-false}
 use Rattle.meaning.specs.Range.{Range, none, IsRange}
@@ -17,10 +18,16 @@ use Rattle.meaning.proofs.Spans.{measure}
 use Rattle.reach.specs.Bits.{Bit}
 use Rattle.reach.specs.declared.places.Places.{Places}
 use Rattle.reach.specs.Reach.{any, chosen, May, Holds, unmoved, moved, Reaches, Digit, Ended, RowSet}
+use Rattle.reach.proofs.Sets.{true-not}
 use Rattle.reach.proofs.Turning.{span}
 
 abbrev to_of : Range → ℕ
 to_of r = r.to
+
+-- a test as a number
+pub is-digit : (b : Bool) {n : ℕ} → n ≡ bool_byte b → Digit b n
+is-digit true e = record { one = λ _. e; back = λ _. refl }
+is-digit false e = record { one = λ t. true-not false t refl; back = λ o. absurd (omega arith) }
 
 -- what joins is a range of the sentence
 join-range : (ws : List ℕ) {p q r : Range} → IsRange ws p → IsRange ws q → Join p q r → IsRange ws r
@@ -72,6 +79,14 @@ module _ (ws : List ℕ) (K : ℕ → Range → Type 0) (free : ℕ → ℕ) (e 
             let g = ltb-false s n q in
             let z : s ≡ n = omega arith in
             subst (λ (x : ℕ). Ended P ss x (get_or (set sets n p.ends) x 0)) (sym z) (subst (Ended P ss n) (sym (get_or-set_same sets n p.ends 0 m)) (ended h))
+
+    -- the sets that stand behind do not matter
+    pub firsts-with : {n size : ℕ} {sets : List ℕ} (others : List ℕ) → length ws ≤ length sets → Firsts n size sets → Firsts n (length (sets ++ others)) (sets ++ others)
+    firsts-with {n} {size} {sets} others l f = record {
+      same = refl;
+      most = f.most;
+      each = λ s h. subst (Ended P ss s) (sym (get_or-append sets others 0 s (omega (arith, f.most)))) (f.each s h);
+    }
 
     pub firsts-all : {n size v : ℕ} {sets : List ℕ} {p : Places} → length ws ≤ n → length ws < length sets → Firsts n size sets → Reaches P ss 0 p → Digit p.still v
         → RowSet P ss (length ws) (set sets (length ws) v)

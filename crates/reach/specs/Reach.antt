@@ -1,6 +1,6 @@
 -- What a row can have where some daughters are chosen and the others, of one part each, may be any that are known; and the same as a
 -- walk over sets of places.
-use Rattle.std.specs.Prelude.{◌≡◌, ◌⊎◌, Bool, true, false, List, [], ◌∷◌, ℕ, zero, suc, ◌+◌, ◌*◌, ◌-◌, ◌≤◌, ◌<◌, length, get_or}
+use Rattle.std.specs.Prelude.{◌≡◌, ◌⊎◌, Bool, true, false, List, [], ◌∷◌, ℕ, suc, ◌+◌, ◌*◌, ◌-◌, ◌≤◌, ◌<◌, length, get_or, Option as CodedOption, Some, None}
 use Rattle.std.proofs.Math.Option.{some as just}
 use Rattle.meaning.specs.Range.{Range, none, IsRange, Spans, joined}
 use Rattle.meaning.specs.Grammar.{Symbol, word, part}
@@ -42,17 +42,12 @@ pub record Fair (ws ends : List ℕ) : Type 0 where
 
 -- the categories of the three daughters, 0 for one that is chosen
 abbrev pub free_of : Free → ℕ → ℕ
-free_of f zero = f.one
-free_of f (suc zero) = f.two
-free_of f (suc (suc zero)) = f.three
-free_of f (suc (suc (suc k))) = 0
+free_of f k = get_or f.categories k 0
 
 -- what a row's run asks: what is lent is the sentence's, and the categories are small
 pub record Asked (ws ends : List ℕ) (f : Free) : Type 0 where
   pub fair : Fair ws ends
-  pub one : f.one ≤ 64
-  pub two : f.two ≤ 64
-  pub three : f.three ≤ 64
+  pub small : (k : ℕ) → free_of f k ≤ 64
 
 -- where a symbol may stand, of what is lent
 abbrev pub MayLent : List ℕ → List ℕ → Free → Daughters → Symbol → Range → Type 0
@@ -167,8 +162,7 @@ pub data InSets (n : ℕ) (sets : List ℕ) (r : Range) : Type 0 where
 abbrev pub number_of : Range → ℕ
 number_of r = r.from * 65 + r.to
 
--- the first number at or after one that is in the set, or 64
-pub record FirstBit (set from r : ℕ) : Type 0 where
-  pub most : r ≤ 64
-  pub there : r < 64 → Bit set r × (from ≤ r)
-  pub before : (i : ℕ) → from ≤ i → i < r → Bit set i → ⊥
+-- the first number at or after one that is in the set, or that there is none
+pub data FirstBit (set from : ℕ) : CodedOption ℕ → Type 0 where
+  first_bit : {r : ℕ} → r < 64 → Bit set r → from ≤ r → ((i : ℕ) → from ≤ i → i < r → Bit set i → ⊥) → FirstBit set from (Some r)
+  no_more : ((i : ℕ) → from ≤ i → i < 64 → Bit set i → ⊥) → FirstBit set from None

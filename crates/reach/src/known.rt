@@ -1,5 +1,5 @@
 // Packed items entered into sets of ends by category and start.
-ghost use Rattle.std.specs.Prelude.{◌≡◌, ◌+◌, ◌*◌, ◌<◌, ◌≤◌, length};
+ghost use Rattle.std.specs.Prelude.{◌≡◌, ◌<◌, ◌≤◌, length};
 ghost use mathlib.Core.List.{Memᴰ};
 ghost use Rattle.reach.specs.Mirror.{IsFirst, Enters, Marks, Entered, Room};
 
@@ -21,6 +21,7 @@ struct Spot {
 }
 
 // What a code has first.
+// Kept: the code is taken apart here, as in hint's `parts_meet`: each takes out only the digits that it needs, here three.
 fn first_of(c: u64) -> First
     ensures { IsFirst c result }
 {
@@ -44,18 +45,14 @@ fn spot_of(c: u64) -> Spot
 {
     let x = first_of(c);
     if x.to == 0 {
-        let less = x.category - 1;
         return Spot {
             number: 0,
-            bit: less,
+            bit: x.category - 1,
         };
     }
-    let base = x.category * 64;
-    let number = base + x.from;
-    let bit = x.to - 1;
     Spot {
-        number: number,
-        bit: bit,
+        number: x.category * 64 + x.from,
+        bit: x.to - 1,
     }
 }
 
@@ -65,9 +62,7 @@ fn mark(ends: &mut [u64], c: u64)
     ensures { Entered (λ d. d ≡ c) ends.old ends.new }
 {
     let spot = spot_of(c);
-    let at = spot.number;
-    let bit = spot.bit;
-    ends[at] = both(ends[at], only(bit));
+    ends[spot.number] = both(ends[spot.number], only(spot.bit));
 }
 
 // Enters codes.
@@ -75,9 +70,7 @@ pub fn enter_all(codes: &[u64], ends: &mut [u64])
     requires { Room codes.now ends.old }
     ensures { Entered (λ c. Memᴰ c codes.now) ends.old ends.new }
 {
-    let mut i = 0;
-    while i < codes.len() {
-        mark(ends, codes[i]);
-        i += 1;
+    for c in codes {
+        mark(ends, *c);
     }
 }

@@ -5,6 +5,7 @@ mod known;
 mod places;
 mod ranges;
 mod rows;
+mod setting;
 
 pub use known::enter_all;
 pub use places::minus;

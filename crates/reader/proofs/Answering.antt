@@ -2,21 +2,28 @@
 -- or too many items; with the checks of table and words, `Read`.
 use mathlib.Core.Path.{◌≡◌, sym, ap, subst, ◌∙◌}
 use mathlib.Core.List.{List, ◌++◌}
-use Prim.Native.Nat.{ℕ, ◌*◌, ◌/◌, ◌<◌, ◌≤◌, min}
+use Prim.Native.Nat.{ℕ, ◌*◌, ◌/◌, ◌≤◌, min}
 use native.Mathlib.Omega.{arith}
 use lib.ListN.{length, take, drop}
 use lib.Seq.{length-take-le}
-use Rattle.meaning.specs.Table.{got, byte}
+use Rattle.std.specs.Prelude.{Option, Some, None, Result, Ok, Err}
+use Rattle.std.specs.Option.{ok_or}
+use Rattle.std.specs.Result.{IsErrAnd}
+use Rattle.meaning.specs.declared.Refusal.{Refusal}
+use Rattle.meaning.specs.Table.{got, refused, byte}
 use Rattle.meaning.specs.Decode.{grammar_of, words_of, check_input}
 use Rattle.meaning.specs.Chart.{records}
-use Rattle.meaning.specs.Reading.{allowed, room, Over, cleared, Read, full, read}
+use Rattle.meaning.specs.Reading.{allowed, room, Over, cleared, Read, bad_input, full, read}
 use Rattle.meaning.proofs.Determined.{table-accepted, room_most}
 use Rattle.search.specs.Search.{Found, all, full as over}
 use Rattle.search.specs.Keys.{KeyMade}
 use Rattle.search.proofs.Whole.{more-over, all-chart}
 use Rattle.reader.specs.Records.{Whole, Written}
-use Rattle.reader.specs.Answers.{goal_key, Judged, Charted, Reading, Answered, too_many, charted}
-use Rattle.reader.proofs.Zeros.{drop-zeros}
+use Rattle.reader.specs.declared.answer.Reading.{Reading as Answer}
+use Rattle.reader.specs.declared.answer.ReadRefusal.{ReadRefusal}
+use Rattle.reader.specs.declared.answer.ReadRefusal.TheVariants.{Input, Full}
+use Rattle.reader.specs.Answers.{code_of, place_of, count_of, goal_key, Judged, Charted, Reading, Answered, too_many, charted}
+use Rattle.std.proofs.lemmas.List.{drop-replicate}
 use Rattle.reader.proofs.Inputs.{words-short}
 use Rattle.reader.proofs.Writing.{entries-length}
 use Rattle.reader.proofs.Goals.{judged-verdict, judged-count}
@@ -33,42 +40,50 @@ charted-all {t} {ws} {K} w r j = record {
   there = r.there;
 }
 
-module _ (t ws : List ℕ) {room : ℕ} where
-  pub answered-full : {before K : List ℕ} {r : ℕ} {after : List ℕ} → Found (KeyMade t ws) room K r → room < r → after ≡ cleared before
-      → Answered t ws room before 16 room 0 after
-  answered-full (all h a) l e = absurd (omega arith)
-  answered-full (over h m) l e = too_many (more-over t ws m) e
+-- a refusal handed on: that of the table or the words, or that there are more items than room
+pub input-refused : {t w : List ℕ} {allowance : ℕ} {before : List ℕ} {r : Refusal} (a : Result Answer ReadRefusal) → refused r ≡ check_input t w
+    → IsErrAnd a (λ e. e ≡ Input r) → Read t w allowance before (code_of a) (place_of a) (count_of a) before
+input-refused (Ok x) e h = absurd h
+input-refused (Err x) e h = rw h (bad_input (sym e))
 
+module _ (t ws : List ℕ) {room : ℕ} {before K : List ℕ} {found : Option ℕ} (finds : Found (KeyMade t ws) room K found) where
+  pub full-refused : {after : List ℕ} (a : Result Answer ReadRefusal) {r : ReadRefusal} → found ≡ None → Err r ≡ ok_or found (Full room) → IsErrAnd a (λ e. e ≡ r)
+      → after ≡ cleared before → Answered t ws room before (code_of a) (place_of a) (count_of a) after
+  full-refused (Ok x) e q h l = absurd h
+  full-refused {after} (Err x) {r} e q h l = let z : r ≡ Full room = cc (rw e at q) in rw (h, z) (go (rw e at finds))
+    where
+      go : Found (KeyMade t ws) room K None → Answered t ws room before 16 room 0 after
+      go (over m) = too_many (more-over t ws m) l
+
+-- the first of the codes are all items, and the chart slice holds their records
+pub record FoundWhole (t ws codes before : List ℕ) (room count : ℕ) : Type 0 where
+  pub whole : Whole t ws codes
+  pub size : length codes ≡ count
+  pub few : length codes ≤ room
+  pub fits : 12 * length codes ≤ length before
+
+pub found-whole : {t ws : List ℕ} {room : ℕ} {before b : List ℕ} {found : Option ℕ} {r : ℕ} → Reading t ws room before → length b ≡ 2000
+    → Found (KeyMade t ws) room b found → found ≡ Some r → FoundWhole t ws (take r b) before room r
+found-whole {t} {ws} {room} {before} {b} {r = r} p n f e = go (rw e at f)
+  where
+    go : Found (KeyMade t ws) room b (Some r) → FoundWhole t ws (take r b) before room r
+    go (all h a) =
+        let size : length (take r b) ≡ r = length-take-le r b (omega (arith, p.small)) in
+        record {
+          whole = record { accepted = p.accepted; short = p.short; all = a; most = omega (arith, p.small) };
+          size = size;
+          few = omega arith;
+          fits = omega (arith, p.fits);
+        }
+
+module _ (t ws : List ℕ) {room : ℕ} where
   pub answered-chart : {before K mid after : List ℕ} {code place count : ℕ} → length K ≤ room → mid ≡ cleared before
       → Charted t ws K mid code place count after → Answered t ws room before code place count after
   answered-chart {before} h e c =
       let n : ℕ = 12 * length c.entries in
-      let rest : drop n _ ≡ _ = ap (drop n) e ∙ drop-zeros n (length before) in
+      let rest : drop n _ ≡ _ = ap (drop n) e ∙ drop-replicate n (length before) 0 in
       charted c.chart (omega (arith, c.size)) c.verdict (c.count ∙ sym c.size)
       (c.there ∙ ap (λ (l : List ℕ). records c.entries ++ l) rest)
-
--- the first of the codes are all items, and the chart slice holds their records
-pub record FoundWhole (t ws codes before : List ℕ) (count : ℕ) : Type 0 where
-  pub whole : Whole t ws codes
-  pub size : length codes ≡ count
-  pub fits : 12 * length codes ≤ length before
-
-pub found-whole : {t ws : List ℕ} {room : ℕ} {before b : List ℕ} {r : ℕ} → Reading t ws room before → length b ≡ 2000
-    → Found (KeyMade t ws) room b r → r ≤ room → FoundWhole t ws (take r b) before r
-found-whole {b = b} {r = r} p n (all h a) l =
-    let size : length (take r b) ≡ r = length-take-le r b (omega (arith, p.small)) in
-    record {
-      whole = record { accepted = p.accepted; short = p.short; all = a; most = omega (arith, p.small) };
-      size = size;
-      fits = omega (arith, p.fits);
-    }
-found-whole p n (over h m) l = absurd (omega arith)
-
--- equal words are answered alike
-pub answered-as : {t ws vs : List ℕ} {room : ℕ} {before : List ℕ} {code place count : ℕ} {after : List ℕ} → ws ≡ vs
-    → Answered t ws room before code place count after → Answered t vs room before code place count after
-answered-as {t} {room = room} {before = before} {code} {place} {count} {after} e =
-    subst (λ (w : List ℕ). Answered t w room before code place count after) e
 
 module _ (t w : List ℕ) (allowance : ℕ) (before : List ℕ) (e : check_input t w ≡ got tt) where
   room-here : {n : ℕ} → n ≡ min (allowed allowance) (length before / 12) → n ≡ room allowance before

@@ -2,7 +2,7 @@
 use mathlib.Core.Path.{◌≡◌, refl, sym, ap, ◌∙◌}
 use mathlib.Core.Option.{some as just}
 use mathlib.Core.List.{List, [], ◌∷◌, map}
-use Prim.Native.Nat.{ℕ, zero, suc, ◌*◌, ◌<◌, ◌≤◌}
+use Prim.Native.Nat.{ℕ, zero, suc, ◌<◌, ◌≤◌}
 use native.Mathlib.Omega.{arith}
 use lib.ListN.{length, get_or, get_elem?}
 use Rattle.meaning.specs.Range.{Item}
@@ -12,10 +12,10 @@ use Rattle.meaning.specs.Chart.{Entry, knowns}
 use Rattle.meaning.specs.Reading.{goal, Verdict, yes_at, no_goal}
 use Rattle.meaning.proofs.Ends.{fine-table}
 use Rattle.meaning.proofs.Theory.{map-mem}
-use Rattle.store.specs.Set.{Sorted, Lower, key_of}
+use Rattle.std.specs.Prelude.{Some, None}
+use Rattle.store.specs.Set.{key_of, PlacedAt, at_first, nowhere}
 use Rattle.store.specs.Code.{unpacked, packed, Small, known_of}
 use Rattle.store.proofs.Packing.{unpack-pack, pack-unpack}
-use Rattle.store.proofs.Sets.{held-no}
 use Rattle.search.proofs.Whole.{thing, same-items}
 use Rattle.reader.specs.Answers.{goal_key, Judged, stands, stands_not}
 
@@ -27,13 +27,12 @@ get_elem_map f [] p d h = absurd (omega arith)
 get_elem_map f (x ∷ l) zero d h = refl
 get_elem_map f (x ∷ l) (suc p) d h = get_elem_map f l p d (omega arith)
 
--- what stands where the goal's codes begin
-module _ (K : List ℕ) (x key place : ℕ) (q : key ≡ x) where
-  pub goal-there : place < length K → key_of (get_or K place 0) ≡ key → Judged x K 0 place (length K)
-  goal-there h k = stands h (k ∙ q) refl
+-- what the search for the goal's key found
+pub goal-there : {x key place : ℕ} {K : List ℕ} → key ≡ x → PlacedAt key K (Some place) → Judged x K 0 place (length K)
+goal-there q (at_first h k f) = stands h (k ∙ q) refl
 
-  pub goal-nowhere : Sorted K → Lower K (key * 2048) place → (place < length K → key_of (get_or K place 0) ≡ key → ⊥) → Judged x K 1 0 (length K)
-  goal-nowhere s w lacks = stands_not (λ h. held-no K key place s w lacks (rw q h)) refl
+pub goal-nowhere : {x key : ℕ} {K : List ℕ} → key ≡ x → PlacedAt key K None → Judged x K 1 0 (length K)
+goal-nowhere q (nowhere lacks) = stands_not (λ h. lacks (rw q h)) refl
 
 pub judged-count : (x : ℕ) {K : List ℕ} {code place count : ℕ} → Judged x K code place count → count ≡ length K
 judged-count x (stands h k n) = n

@@ -1,19 +1,17 @@
 -- What is at hand before the items are looked for: what is allowed, the words that were read, the rules in their order.
-use mathlib.Core.Path.{◌≡◌, refl, ap, ◌∙◌}
-use mathlib.Core.List.{List, ◌++◌}
-use Prim.Native.Nat.{ℕ, zero, suc, ◌/◌, ◌<◌, ◌≤◌, min}
+use mathlib.Core.Path.{◌≡◌, refl, ◌∙◌}
+use mathlib.Core.List.{List}
+use Prim.Native.Nat.{ℕ, zero, suc, ◌<◌, ◌≤◌, min}
 use native.Mathlib.Omega.{arith}
-use lib.ListN.{length, get_or, take, drop, length-take}
-use lib.Seq.{get_or-take, length-take-le, take_at}
+use lib.ListN.{length, get_or, take}
+use lib.Seq.{get_or-take, length-take-le}
 use Rattle.meaning.specs.Table.{got, check_table}
 use Rattle.meaning.specs.Decode.{words_of, check_input}
 use Rattle.meaning.specs.Reading.{allowed}
 use Rattle.meaning.proofs.Determined.{words-few}
 use Rattle.meaning.proofs.Ends.{fine-table}
-use Rattle.input.specs.Views.{filled}
 use Rattle.rules.specs.Walk.{Ranked, Ordered}
 use Rattle.meaning.proofs.Words.{words-length}
-use Rattle.input.proofs.Sentence.{filled-exactly}
 use Rattle.reader.specs.Records.{Ruled}
 
 -- 'more than 2,000 is taken as 2,000', of an allowance that is not 0
@@ -46,16 +44,6 @@ ruled {t} {before} {after} {count} o h = record { ranked = rw size ranked; rules
 pub rules-fit : {t before after : List ℕ} {count : ℕ} → check_table t ≡ got tt → length before ≡ 256
     → Ordered t before after count → count ≤ length after
 rules-fit {t} e n o = omega (arith, o.all, o.size, (fine-table t e).count)
-
--- a slice into whose front the words were read
-pub words-kept : (b lent out : List ℕ) → length b / 2 ≤ length lent → out ≡ filled (words_of b) (take (length b / 2) lent)
-    → take (length b / 2) (out ++ drop (length b / 2) lent) ≡ words_of b
-words-kept b lent out h e =
-    let q : out ≡ words_of b = e ∙ filled-exactly b (take (length b / 2) lent) (length-take-le (length b / 2) lent h) in
-    take_at out _ (length b / 2) (ap length q ∙ words-length b) ∙ q
-
-pub prefix-there : (n : ℕ) (l : List ℕ) {ws : List ℕ} → take n l ≡ ws → length ws ≡ n → n ≤ length l
-prefix-there n l e h = omega (arith, length-take n l, ap length e)
 
 pub words-short : (t w : List ℕ) → check_input t w ≡ got tt → length (words_of w) ≤ 64
 words-short t w e = omega (arith, words-length w, words-few t w e)

@@ -1,6 +1,5 @@
--- Laws of the reader: zeros, what is at hand before the search, one record and all records, the goal, the way to the answer; last, yes exactly
+-- Laws of the reader: what is at hand before the search, one record and all records, the goal, the way to the answer; last, yes exactly
 -- when some tree spells the sentence.
-pub mod Zeros
 pub mod Inputs
 pub mod Entering
 pub mod Writing

@@ -7,14 +7,18 @@ use Prim.Native.Nat.{ℕ, zero, suc, ◌≤◌}
 use native.Mathlib.Omega.{arith}
 use borrow.Author.Tests.{ne_eqb}
 use lib.Dec.{eqb}
+use Rattle.std.specs.Prelude.{Result, Ok, Err}
+use Rattle.meaning.specs.declared.Refusal.{Refusal}
 use Rattle.meaning.specs.Refusals as refusal
 use Rattle.meaning.specs.Decode.{grammar_of, words_of}
 use Rattle.meaning.specs.Reading.{Read}
 use Rattle.meaning.proofs.Codes.{refusal-code, refusal_of, refusal-told}
 use Rattle.meaning.proofs.Determined.{same_read}
 use Rattle.meaning.proofs.Yes.{Spelt, yes-has-tree, no-has-none}
-use Rattle.reader.specs.declared.Answer.{Answer}
-use Rattle.reader.specs.declared.Answer.TheVariants.{Yes, No, Refused, Full, Deep}
+use Rattle.reader.specs.declared.answer.Reading.{Reading}
+use Rattle.reader.specs.declared.answer.Reading.TheVariants.{Yes, No}
+use Rattle.reader.specs.declared.answer.ReadRefusal.{ReadRefusal}
+use Rattle.reader.specs.declared.answer.ReadRefusal.TheVariants.{Input, Full, Deep}
 use Rattle.reader.specs.Answers.{code_of, place_of, count_of}
 
 -- a yes has a tree that spells the sentence; and where there is one, what is answered yes or no is answered yes
@@ -27,23 +31,26 @@ below_two zero h = inl refl
 below_two (suc zero) h = inr refl
 below_two (suc (suc n)) h = absurd (omega arith)
 
+abbrev Answer : Type 0
+Answer = Result Reading ReadRefusal
+
 -- the answer with a code, a place and a count
 abbrev answer_of : ℕ → ℕ → ℕ → Answer
 answer_of c p n =
-    cond (eqb c (code_of (Yes p n))) (Yes p n)
-    (cond (eqb c (code_of (No n))) (No n)
-    (cond (eqb c (code_of (Full p))) (Full p) (cond (eqb c (code_of Deep)) Deep (Refused (refusal_of c p)))))
+    cond (eqb c (code_of (Ok (Yes p n)))) (Ok (Yes p n))
+    (cond (eqb c (code_of (Ok (No n)))) (Ok (No n))
+    (cond (eqb c (code_of (Err (Full p)))) (Err (Full p)) (cond (eqb c (code_of (Err Deep))) (Err Deep) (Err (Input (refusal_of c p))))))
 
 answer-told : (r : Answer) → answer_of (code_of r) (place_of r) (count_of r) ≡ r
-answer-told (Yes p n) = refl
-answer-told (No n) = refl
-answer-told (Refused r) =
+answer-told (Ok (Yes p n)) = refl
+answer-told (Ok (No n)) = refl
+answer-told (Err (Input r)) =
     let k = refusal.code_of r in
     let (low, high) = refusal-code r in
     rw (ne_eqb k 0 (λ e. omega arith), ne_eqb k 1 (λ e. omega arith), ne_eqb k 16 (λ e. omega arith), ne_eqb k 22 (λ e. omega arith))
-    (ap Refused (refusal-told r))
-answer-told (Full room) = refl
-answer-told Deep = refl
+    (ap (λ (r : Refusal). Err (Input r)) (refusal-told r))
+answer-told (Err (Full room)) = refl
+answer-told (Err Deep) = refl
 
 -- the three numbers tell the answer
 same_numbers : (r r' : Answer) → code_of r ≡ code_of r' → place_of r ≡ place_of r' → count_of r ≡ count_of r' → r ≡ r'

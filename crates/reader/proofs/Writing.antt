@@ -1,11 +1,12 @@
 -- Records that are written one after another at the front of a slice.
 use mathlib.Core.Path.{◌≡◌, refl, sym, ap, ◌∙◌}
-use mathlib.Core.List.{List, [], ◌∷◌, ◌++◌, map, append-nil, append_assoc}
-use Prim.Native.Nat.{ℕ, ◌+◌, ◌*◌, ◌<◌, ◌≤◌}
+use mathlib.Core.List.{List, [], ◌∷◌, ◌++◌, append-nil, append_assoc}
+use Prim.Native.Nat.{ℕ, ◌+◌, ◌*◌, ◌<◌}
 use native.Mathlib.Numerals.{add-one}
 use native.Mathlib.Omega.{arith}
+use Rattle.std.proofs.lemmas.List.{map_push}
 use lib.ListN.{length, get_or, take, drop, length-append, length-map}
-use lib.Seq.{take-suc, take_all, take_at, drop_at, drop-drop, length-take-le}
+use lib.Seq.{take-suc, take_at, drop_at, drop-drop, length-take-le}
 use Rattle.meaning.specs.Order.{each_none, each_more}
 use Rattle.meaning.specs.Range.{Item}
 use Rattle.meaning.specs.Chart.{Entry, entry_known, shown, records}
@@ -23,10 +24,6 @@ unfolding records
 records-snoc [] e = append-nil (shown e)
 records-snoc (x ∷ E) e = ap (λ (l : List ℕ). shown x ++ l) (records-snoc E e) ∙ sym (append_assoc (shown x) (records E) (shown e))
 
-map_snoc : {A B : Type 0} (f : A → B) (l : List A) (a : A) → map f (l ++ (a ∷ [])) ≡ map f l ++ (f a ∷ [])
-map_snoc f [] a = refl
-map_snoc f (x ∷ l) a = ap (λ (m : List _). f x ∷ m) (map_snoc f l a)
-
 module _ {t ws K : List ℕ} {before : List ℕ} where
   -- nothing is written yet
   pub write-none : Written t ws K (take 0 K) before before
@@ -41,7 +38,7 @@ module _ {t ws K : List ℕ} {before : List ℕ} where
       → Written t ws K (take (i + 1) K) before after
   write-next {mid} {after} i h w q = record {
     entries = E ++ (e ∷ []);
-    known = rw (map_snoc, add-one, take-suc K i 0 h, map_snoc, w.known, q.known);
+    known = rw (map_push, add-one, take-suc K i 0 h, map_push, w.known, q.known);
     chosen = each_append w.chosen (each_more q.chosen each_none);
     there = q.there ∙ rw (front, rest, records-snoc, append_assoc);
   }
@@ -64,6 +61,3 @@ module _ {t ws K : List ℕ} {before : List ℕ} where
           sym (drop-drop 12 (12 * i) mid) ∙ ap (λ (l : List ℕ). drop 12 (drop (12 * i) l)) w.there
           ∙ ap (drop 12) (drop_at (records E) _ (12 * i) (length-records E ∙ ap (λ (n : ℕ). 12 * n) size))
           ∙ drop-drop 12 (12 * length E) before ∙ ap (λ (m : ℕ). drop m before) n
-
-  pub write-whole : {after : List ℕ} (i : ℕ) → length K ≤ i → Written t ws K (take i K) before after → Written t ws K K before after
-  write-whole i h w = rw (take_all i K h) at w

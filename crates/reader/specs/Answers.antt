@@ -1,5 +1,5 @@
 -- The reader's answer as numbers: document 01, 'Numbers handed back'; and what the code finds over the words and the items.
-use Rattle.std.specs.Prelude.{◌≡◌, List, ◌++◌, ℕ, ◌+◌, ◌*◌, ◌≤◌, ◌<◌, length, get_or, drop}
+use Rattle.std.specs.Prelude.{◌≡◌, List, ◌++◌, ℕ, ◌+◌, ◌*◌, ◌≤◌, ◌<◌, length, get_or, drop, Result, Ok, Err}
 use Rattle.meaning.specs.Refusals as refusal
 use Rattle.meaning.specs.Range.{Item}
 use Rattle.meaning.specs.Table.{got, check_table}
@@ -7,32 +7,32 @@ use Rattle.meaning.specs.Decode.{grammar_of}
 use Rattle.meaning.specs.Chart.{Entry, ChartOf, records}
 use Rattle.meaning.specs.Reading.{Over, Verdict, cleared, laid}
 use Rattle.store.specs.Set.{key_of, Held}
-use Rattle.reader.specs.declared.Answer.{Answer}
-use Rattle.reader.specs.declared.Answer.TheVariants.{Yes, No, Refused, Full, Deep}
+use Rattle.reader.specs.declared.answer.Reading.{Reading as Answer}
+use Rattle.reader.specs.declared.answer.Reading.TheVariants.{Yes, No}
+use Rattle.reader.specs.declared.answer.ReadRefusal.{ReadRefusal}
+use Rattle.reader.specs.declared.answer.ReadRefusal.TheVariants.{Input, Full, Deep}
 
 -- the column 'Code': 'Code 0 (yes)'; 'Code 1 (no)'; a refusal of table or words has its own; '16 Full'; '22 Deep'
-abbrev pub code_of : Answer → ℕ
-code_of (Yes p n) = 0
-code_of (No n) = 1
-code_of (Refused r) = refusal.code_of r
-code_of (Full room) = 16
-code_of Deep = 22
+abbrev pub code_of : Result Answer ReadRefusal → ℕ
+code_of (Ok (Yes p n)) = 0
+code_of (Ok (No n)) = 1
+code_of (Err (Input r)) = refusal.code_of r
+code_of (Err (Full room)) = 16
+code_of (Err Deep) = 22
 
 -- the column 'Place': 'the goal's place'; 'place 0'; 'the room'; '0'
-abbrev pub place_of : Answer → ℕ
-place_of (Yes p n) = p
-place_of (No n) = 0
-place_of (Refused r) = refusal.place_of r
-place_of (Full room) = room
-place_of Deep = 0
+abbrev pub place_of : Result Answer ReadRefusal → ℕ
+place_of (Ok (Yes p n)) = p
+place_of (Ok (No n)) = 0
+place_of (Err (Input r)) = refusal.place_of r
+place_of (Err (Full room)) = room
+place_of (Err Deep) = 0
 
 -- 'In both the count is that of the items. A refusal has count 0.'
-abbrev pub count_of : Answer → ℕ
-count_of (Yes p n) = n
-count_of (No n) = n
-count_of (Refused r) = 0
-count_of (Full room) = 0
-count_of Deep = 0
+abbrev pub count_of : Result Answer ReadRefusal → ℕ
+count_of (Ok (Yes p n)) = n
+count_of (Ok (No n)) = n
+count_of (Err r) = 0
 
 -- the key of a category with the range (0, n) alone
 abbrev pub goal_key : ℕ → ℕ → ℕ

@@ -9,13 +9,17 @@ use native.Mathlib.Decide.{dec_lt}
 use lib.ListN.{length, get_or, take, drop, take-append-drop}
 use lib.Seq.{get_or-take, length-take-le}
 use Rattle.meaning.specs.Order.{Each, each_none, each_more, Sorted, sorted_none, sorted_more}
-use Rattle.meaning.specs.Grammar.{Rule}
+use Rattle.meaning.specs.Grammar as grammar
 use Rattle.meaning.specs.Table.{number}
 use Rattle.meaning.specs.Decode.{rule_at}
 use Rattle.meaning.proofs.Order.{same-members}
 use Rattle.meaning.proofs.Functions.{functions-differ}
-use Rattle.rules.specs.declared.walk.Found.{Found}
-use Rattle.rules.specs.declared.walk.Found.TheVariants.{At}
+use Rattle.std.specs.Prelude.{Option, Some, None, IfSome}
+use Rattle.std.specs.Borrow.{Bor}
+use mathlib.Core.HLevel.{Σ_prop_path}
+use Rattle.rules.specs.declared.rule.Rule.{Rule}
+use Rattle.rules.specs.Index.{RuleOf_prop}
+use Rattle.rules.specs.Found.{found_at}
 use Rattle.rules.specs.Walk.{place_of, RuleOf, Finds, known, unknown, Ranked, Ordered}
 
 -- find_rule
@@ -34,13 +38,34 @@ module _ (t : List ℕ) where
 
   number_of : (p q : ℕ) → rule_at t p ≡ rule_at t q → number t p ≡ number t q
   unfolding rule_at
-  number_of p q e = ap (λ (r : Rule). r.function) e
+  number_of p q e = ap (λ (r : grammar.Rule). r.function) e
 
-  pub finds-once : (f : ℕ) {a b : Found} → Finds t f a → Finds t f b → a ≡ b
-  finds-once f (known {p = p} o e) (known {p = q} u g) = ap At (same_place p q o u (number_of p q cc))
+  pub finds-once : (f : ℕ) {a b : Option ℕ} → Finds t f a → Finds t f b → a ≡ b
+  finds-once f (known {p = p} o e) (known {p = q} u g) = ap Some (same_place p q o u (number_of p q cc))
   finds-once f (known o e) (unknown g) = let z : ◌≡◌ {A = ℕ} 0 1 = cc in absurd (omega arith)
   finds-once f (unknown e) (known u g) = let z : ◌≡◌ {A = ℕ} 0 1 = cc in absurd (omega arith)
   finds-once f (unknown e) (unknown g) = refl
+
+some_same : {p q : ℕ} → Some p ≡ Some q → p ≡ q
+some_same e = cc
+
+-- a rule of a table is told by its place, so the rule that find_rule answers is too
+same_rule : (r s : Rule) → r.table ≡ s.table → r.at ≡ s.at → r ≡ s
+same_rule r s e f =
+    let At : (Bor (List ℕ) × ℕ) → Type 0 = λ u. RuleOf u.0.now u.1 in
+    let g : ((r.table, r.at), r.of_table) ≡ ((s.table, s.at), s.of_table) =
+    Σ_prop_path {B = At} (λ u. RuleOf_prop u.0.now u.1) {u = ((r.table, r.at), r.of_table)} {v = ((s.table, s.at), s.of_table)} (λ i. (e i, f i)) in
+    ap (λ (u : (v : Bor (List ℕ) × ℕ) × At v). record { table = u.0.0; at = u.0.1; of_table = u.1 }) g
+
+pub rule-once : (t : Bor (List ℕ)) (f : ℕ) (a b : Option Rule)
+    → Finds t.now f (found_at a) → IfSome a (λ r. r.table ≡ t) → Finds t.now f (found_at b) → IfSome b (λ r. r.table ≡ t) → a ≡ b
+rule-once t f a b x y u v = go a b (finds-once t.now f x u) y v
+  where
+    go : (a b : Option Rule) → found_at a ≡ found_at b → IfSome a (λ r. r.table ≡ t) → IfSome b (λ r. r.table ≡ t) → a ≡ b
+    go (Some r) (Some s) e y v = ap Some (same_rule r s (y ∙ sym v) (some_same e))
+    go (Some r) None e y v = let z : ◌≡◌ {A = ℕ} 0 1 = cc in absurd (omega arith)
+    go None (Some s) e y v = let z : ◌≡◌ {A = ℕ} 0 1 = cc in absurd (omega arith)
+    go None None e y v = refl
 
 -- order_rules: both lists are sorted, and have the same members
 abbrev Earlier : List ℕ → ℕ → ℕ → Type 0

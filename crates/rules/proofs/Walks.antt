@@ -7,11 +7,11 @@ use native.Mathlib.Omega.{arith}
 use native.Mathlib.Numerals.{add-one}
 use lib.ListN.{length}
 use borrow.Author.Tests.{eq-eqb, ne_eqb}
-use Rattle.meaning.specs.Table.{got, number, check_table}
-use Rattle.meaning.specs.Decode.{several, rule_at, rule_end, first_rule, grammar_of}
+use Rattle.meaning.specs.Table.{got, number, dimension_of, category_of, rank_of, check_table}
+use Rattle.meaning.specs.Decode.{past, several, row_end, rule_at, rule_end, first_rule, grammar_of}
 use Rattle.meaning.specs.TreeWriting.{named}
 use Rattle.meaning.proofs.Ends.{fine-table, past-suc}
-use Rattle.meaning.proofs.Places.{past-none, table-most}
+use Rattle.meaning.proofs.Places.{past-none, table-most, rows_are, row_is, rule-grows, first-is}
 use Rattle.rules.specs.Walk.{place_of}
 
 module _ (t : List ℕ) where
@@ -20,6 +20,11 @@ module _ (t : List ℕ) where
 
   pub place-next : (i : ℕ) → rule_end t (place_of t i) ≡ place_of t (i + 1)
   place-next i = sym (ap (place_of t) (add-one i) ∙ past-suc i (rule_end t) (first_rule t))
+
+  -- a rule's end, by its rows
+  pub rule-from : (rule n at : ℕ) → n ≡ dimension_of t (category_of t rule) → at ≡ rule + 4 + rank_of t rule → rule_end t rule ≡ past n (row_end t) at
+  unfolding rule_end
+  rule-from rule n at e f = rw (e, f, rows_are t rule)
 
   -- a rule of an accepted table ends within it, and its place is a two-byte number
   module _ (e : check_table t ≡ got tt) (at i : ℕ) (p : at ≡ place_of t i) (h : i < number t 7) where
@@ -49,3 +54,6 @@ module _ (t : List ℕ) where
     pub named-on : 0 < n → (number t at ≡ f → ⊥) → named (several n (rule_at t) (rule_end t) at) f ≡ named (several (n - 1) (rule_at t) (rule_end t) (rule_end t at)) f
     unfolding named several rule_at
     named-on h e = turn h ∙ rw (ne_eqb (number t at) f e)
+
+-- where a table's parts start and end, for `search`
+pub ruleset places = (rule-grows, row_is, first-is)

@@ -1,8 +1,12 @@
-// Walking the rules of a table that is accepted, and the rules in the order of their function numbers.
+// Walking the rules of a table that is accepted, what each rule and row says, and the rules in the order of their function numbers.
 #![tactic(auto)]
 
 mod order;
+mod rule;
+mod symbol;
 mod walk;
 
 pub use order::order_rules;
-pub use walk::{Found, find_rule, first_rule, row_end, rule_count, rule_end};
+pub use rule::{Row, Rule, Table};
+pub use symbol::{Symbol, symbol_at};
+pub use walk::{find_rule, first_rule, rule_count, rule_end};

@@ -16,45 +16,47 @@ use Rattle.store.specs.Set.{place, Held, Put, placed, no_room}
 use lib.Seq.{get_or-take}
 use Rattle.store.proofs.Laws.{place-sorted, place-from, place-keeps, place-has, mem-at, at_mem, lt-or-ge}
 use Rattle.store.proofs.Sets.{next, take-mem, take_all, longer}
-use Rattle.search.specs.Level.{New, Ready, Filled, kept, over, Some, Either, Span}
+use Rattle.std.specs.Prelude.{Option, Some as counted, None as too_many}
+use Rattle.search.specs.Level.{New, Ready, Filled, kept, over, Some}
 
 new-as : {K : List ℕ} {h : ℕ} {S T : ℕ → Type 0} {c : ℕ} → ((x : ℕ) → S x → T x) → New K h S c → New K h T c
 new-as f w = record { of = f _ w.of; high = w.high; unknown = w.unknown }
 
-held_in : {x : ℕ} {C D : List ℕ} → ((c : ℕ) → Mem c C → Mem c D) → Held x C → Held x D
+pub held_in : {x : ℕ} {C D : List ℕ} → ((c : ℕ) → Mem c C → Mem c D) → Held x C → Held x D
 held_in f w = record { code = w.code; there = f _ w.there; is = w.is }
 
--- where it fits, it is sorted, and goes on
-pub goes_on : {K : List ℕ} {h : ℕ} {S : ℕ → Type 0} {a : List ℕ} {n : ℕ} {b : List ℕ} {r : ℕ} → Ready K h a n → Filled K h S a n b r → r ≤ length a → length b ≡ length a → Ready K h b r
-goes_on y (kept l s p) k len = record { known = y.known; sorted = s; count = omega arith; height = y.height }
-goes_on y (over q E s e o) k len = absurd (omega arith)
+-- what is counted fits
+pub fits : {K : List ℕ} {h : ℕ} {S : ℕ → Type 0} {a : List ℕ} {n : ℕ} {b : List ℕ} {r : ℕ} → Filled K h S a n b (counted r) → r ≤ length a
+fits (kept l s p) = l
 
-module _ {K : List ℕ} {h : ℕ} {S S' T : ℕ → Type 0} {a : List ℕ} {n : ℕ} {b : List ℕ} {m : ℕ} {c : List ℕ} {r : ℕ} where
+-- where it fits, it is sorted, and goes on
+pub goes_on : {K : List ℕ} {h : ℕ} {S : ℕ → Type 0} {a : List ℕ} {n : ℕ} {b : List ℕ} {r : ℕ} → Ready a n → Filled K h S a n b (counted r) → length b ≡ length a → Ready b r
+goes_on y (kept l s p) len = record { sorted = s; count = omega arith }
+
+module _ {K : List ℕ} {h : ℕ} {S S' T : ℕ → Type 0} {a : List ℕ} {n : ℕ} {b : List ℕ} {m : ℕ} {c : List ℕ} where
   -- adding S and then S' adds T, if that is both
-  pub then : Filled K h S a n b m → m ≤ length a → length b ≡ length a → Filled K h S' b m c r
-      → ((x : ℕ) → S x → T x) → ((x : ℕ) → S' x → T x) → ((x : ℕ) → T x → S x ⊎ S' x) → Filled K h T a n c r
-  then (over q E s e o) k len y f g u = absurd (omega arith)
-  then (kept l s p) k len (kept l' s' p') f g u = kept (omega arith) s' (record {
+  pub then : {r : ℕ} → Filled K h S a n b (counted m) → length b ≡ length a → Filled K h S' b m c (counted r)
+      → ((x : ℕ) → S x → T x) → ((x : ℕ) → S' x → T x) → ((x : ℕ) → T x → S x ⊎ S' x) → Filled K h T a n c (counted r)
+  then (kept l s p) len (kept l' s' p') f g u = kept (omega arith) s' (record {
     keeps = λ d i. p'.keeps d (p.keeps d i);
     origin = λ d i. ⊎_elim (λ j. ⊎_elim (λ t. inl t) (λ w. inr (new-as f w)) (p.origin d j)) (λ w. inr (new-as g w)) (p'.origin d i);
     has = λ x t. ⊎_elim (λ v. ⊎_elim (λ k. inl k) (λ w. inr (held_in p'.keeps w)) (p.has x v)) (λ v. p'.has x v) (u x t);
   })
-  then (kept l s p) k len (over q E t e o) f g u = over (omega arith) E t (omega arith) (λ d i. ⊎_elim (λ j. ⊎_elim (λ z. inl z) (λ w. inr (new-as f w)) (p.origin d j)) (λ w. inr (new-as g w)) (o d i))
 
   -- and where S' does not fit, no more does anything that has both
-  pub stop : Filled K h S a n b m → m ≤ length a → length b ≡ length a → Filled K h S' b m c r → length a < r
-      → ((x : ℕ) → S x → T x) → ((x : ℕ) → S' x → T x) → Filled K h T a n c r
-  stop (over q E s e o) k len y v f g = absurd (omega arith)
-  stop (kept l s p) k len (kept l' s' p') v f g = absurd (omega arith)
-  stop (kept l s p) k len (over q E t e o) v f g = over (omega arith) E t (omega arith) (λ d i. ⊎_elim (λ j. ⊎_elim (λ z. inl z) (λ w. inr (new-as f w)) (p.origin d j)) (λ w. inr (new-as g w)) (o d i))
+  pub stop : Filled K h S a n b (counted m) → length b ≡ length a → Filled K h S' b m c too_many → ((x : ℕ) → S x → T x) → ((x : ℕ) → S' x → T x) → Filled K h T a n c too_many
+  stop (kept l s p) len (over E t e o) f g = over E t (omega arith) (λ d i. ⊎_elim (λ j. ⊎_elim (λ z. inl z) (λ w. inr (new-as f w)) (p.origin d j)) (λ w. inr (new-as g w)) (o d i))
 
 -- the same set in other words
-pub same : {K : List ℕ} {h : ℕ} {S T : ℕ → Type 0} {a : List ℕ} {n : ℕ} {b : List ℕ} {r : ℕ} → Filled K h S a n b r → ((x : ℕ) → S x → T x) → ((x : ℕ) → T x → S x) → Filled K h T a n b r
+pub same : {K : List ℕ} {h : ℕ} {S T : ℕ → Type 0} {a : List ℕ} {n : ℕ} {b : List ℕ} {r : Option ℕ} → Filled K h S a n b r → ((x : ℕ) → S x → T x) → ((x : ℕ) → T x → S x) → Filled K h T a n b r
 same (kept l s p) f g = kept l s (record { keeps = p.keeps; origin = λ d i. ⊎_elim (λ z. inl z) (λ w. inr (new-as f w)) (p.origin d i); has = λ x t. p.has x (g x t) })
-same (over q E s e o) f g = over q E s e (λ d i. ⊎_elim (λ z. inl z) (λ w. inr (new-as f w)) (o d i))
+same (over E s e o) f g = over E s e (λ d i. ⊎_elim (λ z. inl z) (λ w. inr (new-as f w)) (o d i))
+
+pub is_all : {K : List ℕ} {h : ℕ} {S T : ℕ → Type 0} {a : List ℕ} {n : ℕ} {b : List ℕ} {r : Option ℕ} → S ≡ T → Filled K h S a n b r → Filled K h T a n b r
+is_all {K} {h} {S} {T} {a} {n} {b} {r} e w = subst (λ (U : ℕ → Type 0). Filled K h U a n b r) e w
 
 -- nothing added
-pub nothing_yet : {K : List ℕ} {h : ℕ} {S : ℕ → Type 0} {a : List ℕ} {n : ℕ} → Ready K h a n → ((x : ℕ) → S x → ⊥) → Filled K h S a n a n
+pub nothing_yet : {K : List ℕ} {h : ℕ} {S : ℕ → Type 0} {a : List ℕ} {n : ℕ} → Ready a n → ((x : ℕ) → S x → ⊥) → Filled K h S a n a (counted n)
 nothing_yet y f = kept y.count y.sorted (record { keeps = λ d i. i; origin = λ d i. inl i; has = λ x s. absurd (f x s) })
 
 -- one of the first i of a list
@@ -74,61 +76,37 @@ module _ (l : List ℕ) {P : ℕ → ℕ → Type 0} where
 
 -- a loop over a list that adds what each of it does
 module _ {K : List ℕ} {h : ℕ} (l : List ℕ) {P : ℕ → ℕ → Type 0} {a : List ℕ} {n : ℕ} where
-  pub loop-begins : Ready K h a n → Filled K h (Some (take 0 l) P) a n a n
+  pub loop-begins : Ready a n → Filled K h (Some (take 0 l) P) a n a (counted n)
   loop-begins y = nothing_yet y (some-none l)
 
-  pub loop-ends : {b : List ℕ} {m : ℕ} (i : ℕ) → length l ≤ i → Filled K h (Some (take i l) P) a n b m → Filled K h (Some l P) a n b m
+  pub loop-ends : {b : List ℕ} {r : Option ℕ} (i : ℕ) → length l ≤ i → Filled K h (Some (take i l) P) a n b r → Filled K h (Some l P) a n b r
   loop-ends i g w = rw (take_all i l g) at w
 
-  module _ {b : List ℕ} {m : ℕ} (i : ℕ) (lt : i < length l) (w : Filled K h (Some (take i l) P) a n b m) (fit : m ≤ length a) (len : length b ≡ length a) {c : List ℕ} {r : ℕ} (v : Filled K h (P (get_or l i 0)) b m c r) where
-    pub loop-turns : Filled K h (Some (take (i + 1) l) P) a n c r
-    loop-turns = then w fit len v (some-old l i lt) (some-new l i lt) (some-cases l i lt)
+  module _ {b : List ℕ} {m : ℕ} (i : ℕ) (lt : i < length l) (w : Filled K h (Some (take i l) P) a n b (counted m)) (len : length b ≡ length a) {c : List ℕ} where
+    pub loop-turns : {r : ℕ} → Filled K h (P (get_or l i 0)) b m c (counted r) → Filled K h (Some (take (i + 1) l) P) a n c (counted r)
+    loop-turns v = then w len v (some-old l i lt) (some-new l i lt) (some-cases l i lt)
 
-    pub loop-stops : length a < r → Filled K h (Some l P) a n c r
-    loop-stops q = stop w fit len v q (λ x s. record { which = s.which; among = take-mem i l s.among; does = s.does }) (λ x p. record { which = get_or l i 0; among = mem-at l i lt; does = p })
+    pub loop-stops : Filled K h (P (get_or l i 0)) b m c too_many → Filled K h (Some l P) a n c too_many
+    loop-stops v = stop w len v (λ x s. record { which = s.which; among = take-mem i l s.among; does = s.does }) (λ x p. record { which = get_or l i 0; among = mem-at l i lt; does = p })
 
-module _ {K : List ℕ} {h : ℕ} {a : List ℕ} {n : ℕ} (x : ℕ) (y : Ready K h a n) where
-  pub entered-known : Held x K → Filled K h (λ z. z ≡ x) a n a n
+module _ {K : List ℕ} {h : ℕ} {a : List ℕ} {n : ℕ} (x : ℕ) (low : h < 2048) (y : Ready a n) where
+  pub entered-known : Held x K → Filled K h (λ z. z ≡ x) a n a (counted n)
   entered-known w = kept y.count y.sorted (record { keeps = λ d i. i; origin = λ d i. inl i; has = λ z e. inl (record { code = w.code; there = w.there; is = w.is ∙ sym e }) })
 
   module _ (lacks : Held x K → ⊥) where
     fresh : (d : ℕ) → d ≡ x * 2048 + h → New K h (λ z. z ≡ x) d
     fresh d e =
-        let i : d / 2048 ≡ x = omega (arith, y.height) in
-        record { of = i; high = omega (arith, y.height); unknown = λ w. lacks (record { code = w.code; there = w.there; is = w.is ∙ i }) }
+        let i : d / 2048 ≡ x = omega (arith, low) in
+        record { of = i; high = omega (arith, low); unknown = λ w. lacks (record { code = w.code; there = w.there; is = w.is ∙ i }) }
 
-    pub entered-put : {b : List ℕ} {r : ℕ} → Put a n (x * 2048 + h) b r → Filled K h (λ z. z ≡ x) a n b r
+    pub entered-put : {b : List ℕ} {r : Option ℕ} → Put a n (x * 2048 + h) b r → Filled K h (λ z. z ≡ x) a n b r
     entered-put (placed l e) = kept l (rw e (place-sorted (x * 2048 + h) y.sorted)) (record {
       keeps = λ d i. rw e (place-keeps (x * 2048 + h) i);
       origin = λ d i. ⊎_elim (λ q. inr (fresh d q)) (λ j. inl j) (place-from (x * 2048 + h) (take n a) (rw e at i));
-      has = λ z q. inr (record { code = x * 2048 + h; there = rw e (place-has (x * 2048 + h) (take n a)); is = omega (arith, y.height) });
+      has = λ z q. inr (record { code = x * 2048 + h; there = rw e (place-has (x * 2048 + h) (take n a)); is = omega (arith, low) });
     })
-    entered-put (no_room q e m) = over q (place (x * 2048 + h) (take n a)) (place-sorted (x * 2048 + h) y.sorted) (longer (x * 2048 + h) (take n a) m ∙ simp length-take (omega arith))
+    entered-put (no_room e m) = over (place (x * 2048 + h) (take n a)) (place-sorted (x * 2048 + h) y.sorted) (longer (x * 2048 + h) (take n a) m ∙ simp length-take (omega arith))
         (λ d i. ⊎_elim (λ q. inr (fresh d q)) (λ j. inl j) (place-from (x * 2048 + h) (take n a) i))
-
-pub half : {K : List ℕ} {h : ℕ} {S S' : ℕ → Type 0} {a : List ℕ} {n : ℕ} {b : List ℕ} {r : ℕ} → Filled K h S a n b r → length a < r → Filled K h (Either S S') a n b r
-half (kept l s p) q = absurd (omega arith)
-half (over e E s l o) q = over e E s l (λ d i. ⊎_elim (λ z. inl z) (λ w. inr (new-as (λ x v. inl v) w)) (o d i))
-
-pub both : {K : List ℕ} {h : ℕ} {S S' : ℕ → Type 0} {a : List ℕ} {n : ℕ} {b : List ℕ} {m : ℕ} {c : List ℕ} {r : ℕ} → Filled K h S a n b m → m ≤ length a → length b ≡ length a → Filled K h S' b m c r → Filled K h (Either S S') a n c r
-both w fit len v = then w fit len v (λ x s. inl s) (λ x s. inr s) (λ x s. s)
-
--- a loop over numbers
-module _ {K : List ℕ} {h lo : ℕ} {P : ℕ → ℕ → Type 0} {a : List ℕ} {n : ℕ} where
-  pub span_begins : Ready K h a n → Filled K h (Span lo lo P) a n a n
-  span_begins y = nothing_yet y (λ x w. omega (arith, w.above, w.below))
-
-  module _ {b : List ℕ} {m s : ℕ} (w : Filled K h (Span lo s P) a n b m) (fit : m ≤ length a) (len : length b ≡ length a) {c : List ℕ} {r : ℕ} (v : Filled K h (P s) b m c r) (l : lo ≤ s) where
-    pub span-turns : Filled K h (Span lo (s + 1) P) a n c r
-    span-turns = then w fit len v (λ x z. record { start = z.start; above = z.above; below = omega (arith, z.below); does = z.does }) (λ x z. record { start = s; above = l; below = omega arith; does = z })
-        (λ x z. ⊎_elim (λ t. inl (record { start = z.start; above = z.above; below = t; does = z.does })) (λ t. inr (let e : z.start ≡ s = omega (arith, z.below) in subst (λ (q : ℕ). P q x) e z.does)) (lt-or-ge z.start s))
-
-    pub span-stops : (hi : ℕ) → s < hi → length a < r → Filled K h (Span lo hi P) a n c r
-    span-stops hi t q = stop w fit len v q (λ x z. record { start = z.start; above = z.above; below = omega (arith, z.below); does = z.does }) (λ x z. record { start = s; above = l; below = t; does = z })
-
--- what is known already need not be tried
-pub known-already : {K : List ℕ} {h : ℕ} {S : ℕ → Type 0} {a : List ℕ} {n : ℕ} → Ready K h a n → ((x : ℕ) → S x → Held x K) → Filled K h S a n a n
-known-already y f = kept y.count y.sorted (record { keeps = λ d i. i; origin = λ d i. inl i; has = λ x s. inl (f x s) })
 
 -- places that do nothing are passed over
 take_in : {c : ℕ} (l : List ℕ) (i j : ℕ) → i ≤ j → Mem c (take i l) → Mem c (take j l)
@@ -138,7 +116,7 @@ take_in (d ∷ l) (suc i) (suc j) h (here e) = here e
 take_in (d ∷ l) (suc i) (suc j) h (there m) = there (take_in l i j (omega arith) m)
 take_in l (suc i) zero h m = absurd (omega arith)
 
-pub jump : {K : List ℕ} {h : ℕ} (l : List ℕ) {P : ℕ → ℕ → Type 0} {a : List ℕ} {n : ℕ} {b : List ℕ} {m : ℕ} (i j : ℕ) → i ≤ j
+pub jump : {K : List ℕ} {h : ℕ} (l : List ℕ) {P : ℕ → ℕ → Type 0} {a : List ℕ} {n : ℕ} {b : List ℕ} {m : Option ℕ} (i j : ℕ) → i ≤ j
     → ((p : ℕ) → i ≤ p → p < j → p < length l → (x : ℕ) → P (get_or l p 0) x → ⊥) → Filled K h (Some (take i l) P) a n b m → Filled K h (Some (take j l) P) a n b m
 jump l {P} i j h none w = same w (λ x s. record { which = s.which; among = take_in l i j h s.among; does = s.does }) back
   where

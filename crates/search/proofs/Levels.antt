@@ -16,10 +16,8 @@ use Rattle.store.specs.Set.{Sorted, key_of, height_of, Held, Merged, place, gath
 use Rattle.store.proofs.Laws.{lt-or-ge, place-from, gather-sorted, gather-from}
 use Rattle.store.proofs.Sets.{longer}
 use Rattle.search.specs.Level.{New, Adds}
+use Rattle.search.proofs.Filling.{held_in}
 use Rattle.search.specs.Search.{keyed, Exact, All, More, Level}
-
-held_in : {x : ℕ} {C D : List ℕ} → ((c : ℕ) → Mem c C → Mem c D) → Held x C → Held x D
-held_in f w = record { code = w.code; there = f _ w.there; is = w.is }
 
 things-keyed : (cs : List ℕ) → things (map keyed cs) ≡ map key_of cs
 things-keyed [] = refl

@@ -17,7 +17,7 @@ use Rattle.meaning.proofs.Moved.{Copied, Body, body_same}
 use Rattle.store.proofs.Laws.{lt-or-ge}
 use Rattle.phrase.specs.declared.items.Item.{Item as CodedItem}
 use Rattle.phrase.specs.Phrase.{RuleOf}
-use Rattle.phrase.proofs.RuleThere.{fine}
+use Rattle.rules.proofs.RuleThere.{fine}
 use Rattle.search.specs.Tried.{Tried, none_of, blank_item, ByRules}
 use Rattle.search.specs.Likeness.{Like, LikeBefore}
 use Rattle.search.proofs.Ruling.{open_none, place, by_cases}
@@ -70,12 +70,6 @@ pub record SameTo (t : List ℕ) (a b k : ℕ) : Type 0 where
   pub same : (m : ℕ) → 2 ≤ m → m < k → byte t (a + m) ≡ byte t (b + m)
 
 module _ {t : List ℕ} {a b : ℕ} where
-  pub same-begins : (k : ℕ) → k ≤ 2 → SameTo t a b k
-  same-begins k h = record { same = λ m low high. absurd (omega arith) }
-
-  pub same-turns : (k : ℕ) → SameTo t a b k → byte t (a + k) ≡ byte t (b + k) → SameTo t a b (k + 1)
-  same-turns k s e = record { same = λ m low high. ⊎_elim (s.same m low) (λ g. let q : k ≡ m = omega arith in subst (λ (n : ℕ). byte t (a + n) ≡ byte t (b + n)) q e) (lt-or-ge m k) }
-
   pub same_ends : (k : ℕ) → rule_end t a ≤ a + k → SameTo t a b k → Like t a b
   same_ends k h s = record { same = λ m low l. s.same m low (omega arith) }
 

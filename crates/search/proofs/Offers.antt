@@ -3,7 +3,7 @@ use mathlib.Core.Path.{◌≡◌, refl, ap, sym, subst, ◌∙◌}
 use mathlib.Core.Logic.{◌⊎◌, inl, inr, ⊎_elim}
 use mathlib.Core.Option.{none as apart, some as just}
 use mathlib.Core.List.{List, [], ◌∷◌, map}
-use Prim.Native.Nat.{ℕ, zero, suc, ◌+◌, ◌<◌, ◌≤◌, max}
+use Prim.Native.Nat.{ℕ, zero, suc, ◌+◌, ◌-◌, ◌*◌, ◌^◌, ◌<◌, ◌≤◌, max}
 use native.Mathlib.Omega.{arith}
 use lib.ListN.{length, get_or, take, length-take}
 use lib.Seq.{ext_get_or, get_or-take}
@@ -19,18 +19,17 @@ use Rattle.store.specs.Code.{unpacked, packed, Small}
 use Rattle.store.proofs.Packing.{unpack-pack, same_key}
 use Rattle.phrase.specs.declared.items.Item.{Item as CodedItem}
 use Rattle.phrase.specs.declared.items.Daughters.{Daughters}
-use Rattle.phrase.specs.declared.rows.Row.{Row}
+use Rattle.rules.specs.declared.rule.Row.{Row}
 use Rattle.phrase.specs.declared.ranges.Range.{Range as CodedRange}
-use Rattle.phrase.specs.declared.ranges.Join.{Join as JoinAnswer}
-use Rattle.phrase.specs.declared.ranges.Join.TheVariants.{Joined, Apart}
-use Rattle.phrase.specs.Phrase.{range_of, join_of, symbols_of, items_of, held_of, RuleOf, Has, Next, found, over, start_of}
+use Rattle.phrase.specs.Phrase.{range_of, join_of, symbols_of, items_of, held_of, RuleOf, row_of, RowIs, Has, Next, found, over, start_of}
 use Rattle.phrase.proofs.Fit.{has_in}
 use Rattle.phrase.proofs.Runs.{run-once}
 use Rattle.phrase.proofs.RuleThere.{give-item}
 use Rattle.hint.specs.Hint.{seat, Open, held_as, unknown, Partial, Completes, Does}
+use Rattle.std.specs.Prelude.{Option, Some, None}
 use Rattle.search.specs.Level.{Ready, Filled}
-use Rattle.search.specs.Tried.{Tried, Trying, Ranged, Offered, Short}
-use Rattle.search.proofs.Choosing.{rule-kind}
+use Rattle.search.specs.Tried.{Tried, Ranged, Ranges, then_range, Offered, Short}
+use Rattle.search.proofs.Choosing.{Tries, rule-kind}
 use Rattle.search.proofs.Filling.{then, stop, same, nothing_yet}
 
 -- a row's ranges, one after another by their starts
@@ -48,16 +47,16 @@ module _ (ws : List ℕ) (d : Daughters) (ss : List Symbol) (P : Range → ℕ �
   first (found h l f) = (h, l, f)
 
   module _ {K : List ℕ} {h : ℕ} {a : List ℕ} {n : ℕ} where
-    pub row-begins : Ready K h a n → Filled K h (Passed 0) a n a n
+    pub row-begins : Ready a n → Filled K h (Passed 0) a n a (Some n)
     row-begins y = nothing_yet y (λ x w. omega (arith, w.does.0))
 
-    module _ {b : List ℕ} {m : ℕ} (from : ℕ) (w : Filled K h (Passed from) a n b m) where
-      pub row_ends : Next start_of (Has ws d ss) from apart → Filled K h (Ranged ws d ss P) a n b m
+    module _ {b : List ℕ} {m : ℕ} (from : ℕ) (w : Filled K h (Passed from) a n b (Some m)) where
+      pub row_ends : Next start_of (Has ws d ss) from apart → Filled K h (Ranged ws d ss P) a n b (Some m)
       row_ends q = same w forget (λ x s. record { range = s.range; has = s.has; does = (past q s.range s.has, s.does) })
 
-      module _ (fit : m ≤ length a) (len : length b ≡ length a) (p : Range) (q : Next start_of (Has ws d ss) from (just p)) {c : List ℕ} {r : ℕ} (v : Filled K h (P p) b m c r) where
-        pub row-turns : Filled K h (Passed (p.from + 1)) a n c r
-        row-turns = then w fit len v
+      module _ (len : length b ≡ length a) (p : Range) (q : Next start_of (Has ws d ss) from (just p)) {c : List ℕ} where
+        pub row-turns : {r : ℕ} → Filled K h (P p) b m c (Some r) → Filled K h (Passed (p.from + 1)) a n c (Some r)
+        row-turns v = then w len v
             (λ x s. record { range = s.range; has = s.has; does = (omega (arith, s.does.0, (first q).1), s.does.1) })
             (λ x z. record { range = p; has = (first q).0; does = (omega arith, z) })
             cases
@@ -68,42 +67,97 @@ module _ (ws : List ℕ) (d : Daughters) (ss : List Symbol) (P : Range → ℕ �
                 (λ g. let e : s.range ≡ p = run-once ws (held_of d) s.has (first q).0 (omega (arith, s.does.0, (first q).2 s.range s.has g)) in inr (subst (λ (r : Range). P r x) e s.does.1))
                 (lt-or-ge s.range.from from)
 
-        pub row-stops : length a < r → Filled K h (Ranged ws d ss P) a n c r
-        row-stops t = stop w fit len v t forget (λ x z. record { range = p; has = (first q).0; does = z })
+        pub row-stops : Filled K h (P p) b m c None → Filled K h (Ranged ws d ss P) a n c None
+        row-stops v = stop w len v forget (λ x z. record { range = p; has = (first q).0; does = z })
+
+in-short : (ws : List ℕ) (d : Daughters) {ss : List Symbol} {r : Range} → length ws ≤ 64 → Has ws d ss r → Short r
+in-short ws d short h = record { from = omega (arith, has_in ws d h); to = omega (arith, has_in ws d h) }
 
 -- what the code's search for a row's next range answered
-module _ (ws : List ℕ) (d : Daughters) (t : List ℕ) (row : Row) (ss : List Symbol) (from : ℕ) (o : JoinAnswer) (e : symbols_of t row ≡ ss) (n : Next start_of (Has ws d (symbols_of t row)) from (join_of o)) where
-  there : Next start_of (Has ws d ss) from (join_of o)
-  there = subst (λ (l : List Symbol). Next start_of (Has ws d l) from (join_of o)) e n
+module _ (ws : List ℕ) (d : Daughters) {t : List ℕ} {rule i : ℕ} {row : Option Row} (R : RowIs t rule i row) {from : ℕ} where
+  there : (o : Option CodedRange) → Next start_of (Has ws d (symbols_of row)) from (join_of o) → Next start_of (Has ws d (row_of t rule i)) from (join_of o)
+  there o n = subst (λ (l : List Symbol). Next start_of (Has ws d l) from (join_of o)) R.symbols n
 
-  pub next-apart : o ≡ Apart → Next start_of (Has ws d ss) from apart
-  next-apart f = subst (λ (a : JoinAnswer). Next start_of (Has ws d ss) from (join_of a)) f there
+  module _ {o : Option CodedRange} (n : Next start_of (Has ws d (symbols_of row)) from (join_of o)) where
+    pub next-none : o ≡ None → Next start_of (Has ws d (row_of t rule i)) from apart
+    next-none f = subst (λ (a : Option CodedRange). Next start_of (Has ws d (row_of t rule i)) from (join_of a)) f (there o n)
 
-  pub next-joined : (p : CodedRange) → o ≡ Joined p → Next start_of (Has ws d ss) from (just (range_of p))
-  next-joined p f = subst (λ (a : JoinAnswer). Next start_of (Has ws d ss) from (join_of a)) f there
+    module _ {p : CodedRange} (f : o ≡ Some p) where
+      pub next-some : Next start_of (Has ws d (row_of t rule i)) from (just (range_of p))
+      next-some = subst (λ (a : Option CodedRange). Next start_of (Has ws d (row_of t rule i)) from (join_of a)) f (there o n)
 
-  pub next-has : (p : CodedRange) → o ≡ Joined p → length ws ≤ 64 → (from ≤ p.from) × Short (range_of p)
-  next-has p f short = go (next-joined p f)
-    where
-      go : {q : Range} → Next start_of (Has ws d ss) from (just q) → (from ≤ q.from) × Short q
-      go (found h l g) = (l, record { from = omega (arith, has_in ws d h); to = omega (arith, has_in ws d h) })
-
--- one key
-pub one_key : {K : List ℕ} {h : ℕ} {a : List ℕ} {n : ℕ} {b : List ℕ} {r : ℕ} (x : ℕ) (y : Item) → unpacked x ≡ y → Filled K h (λ z. z ≡ x) a n b r → Filled K h (λ z. unpacked z ≡ y) a n b r
-one_key x y e w = same w (λ z q. ap unpacked q ∙ e) (λ z q. same_key (q ∙ sym e))
+      pub next-has : length ws ≤ 64 → (from ≤ p.from) × Short (range_of p)
+      next-has short = go next-some
+        where
+          go : {q : Range} → Next start_of (Has ws d (row_of t rule i)) from (just q) → (from ≤ q.from) × Short q
+          go (found h l g) = (l, in-short ws d short h)
 
 pub key-small : (A : ℕ) (p q r : Range) → A ≤ 64 → Short p → Short q → Short r → Small (record { category = A; one = p; two = q; three = r })
 key-small A p q r a b c d = record { category = omega arith; from₁ = omega (arith, b.from); to₁ = omega (arith, b.to); from₂ = omega (arith, c.from); to₂ = omega (arith, c.to); from₃ = omega (arith, d.from); to₃ = omega (arith, d.to) }
 
-pub one-item : {K : List ℕ} {h : ℕ} {a : List ℕ} {n : ℕ} {b : List ℕ} {m : ℕ} (y : Item) (x : ℕ) → Small y → x ≡ packed y → Filled K h (λ z. z ≡ x) a n b m → Filled K h (λ z. unpacked z ≡ y) a n b m
-one-item y x s e w = one_key x y (ap unpacked e ∙ unpack-pack y s) w
+-- a key that begins with some digits goes on with one range more, while there is room for it and the others
+pub ranges-on : (t ws : List ℕ) (rule : ℕ) (d : Daughters) (i key : ℕ) → i < 3
+    → Ranges t ws rule d (3 - i) key ≡ Ranged ws d (row_of t rule i) (λ r. Ranges t ws rule d (3 - (i + 1)) (then_range key r))
+ranges-on t ws rule d zero key h = refl
+ranges-on t ws rule d (suc zero) key h = refl
+ranges-on t ws rule d (suc (suc zero)) key h = refl
+ranges-on t ws rule d (suc (suc (suc i))) key h = absurd (omega arith)
 
-pub third-entered : {K : List ℕ} {h : ℕ} {a : List ℕ} {n : ℕ} {b : List ℕ} {m : ℕ} (t : List ℕ) (rule A x : ℕ) (p q r : Range) → RuleOf t rule → A ≡ category_of t rule → Short p → Short q → Short r
-    → x ≡ packed (record { category = A; one = p; two = q; three = r }) → Filled K h (λ z. z ≡ x) a n b m
-    → Filled K h (λ z. unpacked z ≡ record { category = category_of t rule; one = p; two = q; three = r }) a n b m
-third-entered {K} {h} {a} {n} {b} {m} t rule A x p q r R e sp sq sr f w =
-    subst (λ (B : ℕ). Filled K h (λ z. unpacked z ≡ record { category = B; one = p; two = q; three = r }) a n b m) e
-    (one-item (record { category = A; one = p; two = q; three = r }) x (key-small A p q r (omega (arith, rule-kind t rule R)) sp sq sr) f w)
+pub ranges-all : (t ws : List ℕ) (rule : ℕ) (d : Daughters) (i key : ℕ) → i ≡ 3 → (λ x. x ≡ key) ≡ Ranges t ws rule d (3 - i) key
+ranges-all t ws rule d i key e = rw e
+
+pub room-on : (i key : ℕ) (r : Range) → i < 3 → (key + 1) * 16384 ^ (3 - i) ≤ 2 ^ 49 → Short r → (then_range key r + 1) * 16384 ^ (3 - (i + 1)) ≤ 2 ^ 49
+room-on zero key r h b s = omega (arith, s.from, s.to)
+room-on (suc zero) key r h b s = omega (arith, s.from, s.to)
+room-on (suc (suc zero)) key r h b s = omega (arith, s.from, s.to)
+room-on (suc (suc (suc i))) key r h b s = absurd (omega arith)
+
+pub room-now : (i key : ℕ) → i < 3 → (key + 1) * 16384 ^ (3 - i) ≤ 2 ^ 49 → key < 2 ^ 35
+room-now zero key h b = omega arith
+room-now (suc zero) key h b = omega arith
+room-now (suc (suc zero)) key h b = omega arith
+room-now (suc (suc (suc i))) key h b = absurd (omega arith)
+
+small-item : (t ws : List ℕ) (rule : ℕ) (d : Daughters) → RuleOf t rule → length ws ≤ 64 → {p q r : Range} {ps qs rs : List Symbol} → Has ws d ps p → Has ws d qs q → Has ws d rs r
+    → Small (record { category = category_of t rule; one = p; two = q; three = r })
+small-item t ws rule d o short a b c = key-small _ _ _ _ (rule-kind t rule o).1 (in-short ws d short a) (in-short ws d short b) (in-short ws d short c)
+
+-- all three ranges after the category: the keys of the items that the rows can have
+module _ {t ws : List ℕ} {rule : ℕ} {d : Daughters} (o : RuleOf t rule) (short : length ws ≤ 64) where
+  module _ (x : ℕ) where
+    pub ranges-offered : Ranges t ws rule d 3 (category_of t rule) x → Offered t ws rule d x
+    unfolding packed
+    ranges-offered w = record {
+      range = w.range;
+      has = w.has;
+      does = record {
+        range = w.does.range;
+        has = w.does.has;
+        does = record {
+          range = w.does.does.range;
+          has = w.does.does.has;
+          does = let y : Item = record { category = category_of t rule; one = w.range; two = w.does.range; three = w.does.does.range } in
+              ap unpacked w.does.does.does ∙ unpack-pack y (small-item t ws rule d o short w.has w.does.has w.does.does.has);
+        };
+      };
+    }
+
+    pub offered-ranges : Offered t ws rule d x → Ranges t ws rule d 3 (category_of t rule) x
+    unfolding packed
+    offered-ranges w = record {
+      range = w.range;
+      has = w.has;
+      does = record {
+        range = w.does.range;
+        has = w.does.has;
+        does = record {
+          range = w.does.does.range;
+          has = w.does.does.has;
+          does = let y : Item = record { category = category_of t rule; one = w.range; two = w.does.range; three = w.does.does.range } in
+              same_key (w.does.does.does ∙ sym (unpack-pack y (small-item t ws rule d o short w.has w.does.has w.does.does.has)));
+        };
+      };
+    }
 
 -- the daughters, where all are chosen
 abbrev pub picked : Daughters → List (Known Item)
@@ -158,7 +212,7 @@ module _ (d : Daughters) (few : d.count ≤ 3) where
   pub is-picked : {full : List (Known Item)} → ((k : ℕ) → k < d.count → Open d k → ⊥) → Completes d full → full ≡ picked d
   is-picked {full} all C = ext_get_or unknown full (picked d) (C.size ∙ sym size-picked) (λ k l. let h : k < d.count = omega (arith, C.size) in C.keeps k h (all k h) ∙ sym (picked-at k h))
 
-module _ {t ws : List ℕ} {rule : ℕ} {goal : CodedItem} {d : Daughters} {K : List ℕ} {left : ℕ} (T : Trying t ws rule goal d K left) (all : (k : ℕ) → k < d.count → Open d k → ⊥) where
+module _ {t ws : List ℕ} {rule : ℕ} {goal : CodedItem} {d : Daughters} {K : List ℕ} {left : ℕ} (T : Tries t ws rule goal d K left) (all : (k : ℕ) → k < d.count → Open d k → ⊥) where
   few : d.count ≤ 3
   few = T.partial.few
 

@@ -1,14 +1,12 @@
--- Laws of two parts of a sorted set: where they stand, and what is skipped between them.
-use mathlib.Core.Path.{◌≡◌}
+-- Laws of two parts of a sorted set: where they stand.
 use mathlib.Core.Logic.{inl, inr, ⊎_elim}
 use mathlib.Core.List.{List}
-use Prim.Native.Nat.{ℕ, ◌+◌, ◌<◌, ◌≤◌}
+use Prim.Native.Nat.{ℕ, ◌<◌, ◌≤◌}
 use native.Mathlib.Omega.{arith}
 use lib.ListN.{length, get_or}
 use Rattle.store.specs.Set.{Lower, Within}
 use Rattle.store.proofs.Laws.{lt-or-ge}
-use Rattle.search.specs.declared.spots.Spots.{Spots}
-use Rattle.search.specs.Spots.{Ordered, Finds, Skips}
+use Rattle.search.specs.Spots.{Finds}
 
 module _ {K : List ℕ} {low high lo hi : ℕ} (u : Lower K low lo) (v : Lower K high hi) where
   pub lower-rise : low ≤ high → lo ≤ hi
@@ -27,16 +25,3 @@ finds lo gap resume hi a b c d h k l = record {
   end = d.within;
   has = λ p n w. ⊎_elim (λ x. inl (lower-within a b p n x)) (λ x. inr (lower-within c d p n x)) w;
 }
-
-module _ (r : Spots) (o : Ordered r) where
-  pub skips-first : r.lo ≡ r.gap → Skips r 0 r.resume
-  skips-first e = record { on = omega arith; none = λ p a b i. ⊎_elim (λ z. omega (arith, z.0, z.1)) (λ z. omega (arith, z.0)) i }
-
-  pub skips-to : Skips r 0 r.lo
-  skips-to = record { on = omega arith; none = λ p a b i. ⊎_elim (λ z. omega (arith, z.0)) (λ z. omega (arith, z.0, o.one, o.two)) i }
-
-  pub skips-gap : (i : ℕ) → i + 1 ≡ r.gap → Skips r (i + 1) r.resume
-  skips-gap i e = record { on = omega (arith, o.two); none = λ p a b x. ⊎_elim (λ z. omega (arith, z.1)) (λ z. omega (arith, z.0)) x }
-
-  pub skips-none : (i : ℕ) → Skips r i i
-  skips-none i = record { on = omega arith; none = λ p a b x. omega arith }

@@ -18,8 +18,10 @@ use Rattle.store.specs.Set.{key_of, height_of}
 use Rattle.store.specs.Code.{unpacked, known_of}
 use Rattle.store.proofs.Laws.{lt-or-ge}
 use Rattle.store.proofs.Packing.{key-small, pack-unpack}
+use Rattle.rules.proofs.RuleThere.{fine}
 use Rattle.phrase.specs.Phrase.{RuleOf}
 use Rattle.hint.specs.Hint.{seat, Open}
+use Rattle.std.specs.Prelude.{Option, Some as counted, None as too_many}
 use Rattle.search.specs.Level.{Ready, Filled}
 use Rattle.search.specs.Search.{keyed, Level}
 use Rattle.search.specs.Keys.{KeyMade, KeyGiven, Asked}
@@ -124,75 +126,64 @@ module _ (t ws K : List ℕ) (h : ℕ) where
   by_cases i x s = ⊎_elim (λ l. inl (record { index = s.index; below = l; tried = s.tried }))
       (λ g. inr (let e : s.index ≡ i = omega (arith, s.below) in subst (λ (j : ℕ). Tried t ws (place t j) (blank_item (h + 1)) (none_of (rank_of t (place t j))) K x) e s.tried)) (lt-or-ge s.index i)
 
-  -- what is known when a rule is tried from nothing
-  module _ (A : Asked t ws K h) where
-    pub rule-of : (i : ℕ) → i < number t 7 → RuleOf t (place t i)
-    rule-of i l = record { accepted = A.accepted; index = i; below = l; there = refl }
-
-    pub trying-none : (i : ℕ) → i < number t 7 → Trying t ws (place t i) (blank_item (h + 1)) (none_of (rank_of t (place t i))) K (rank_of t (place t i))
-    trying-none i l = record {
-      there = rule-of i l;
-      short = A.short;
-      most = A.most;
-      any = refl;
-      low = omega arith;
-      high = omega (arith, A.low);
-      partial = record { few = few; past = λ k a b. open_none (rank_of t (place t i)) k; blank = λ k a b. blank_none (rank_of t (place t i)) k };
-      count = refl;
-      codes = λ c m. code-fine t ws A.accepted A.short c (A.exact.right c m);
-      drawn = λ k a n. absurd (n (open_none (rank_of t (place t i)) k));
-      fewer = open-count (rank_of t (place t i)) few;
-    }
-      where
-        few : rank_of t (place t i) ≤ 3
-        few = ((fine-table t A.accepted).rules i l).rank
+-- what is known of the daughters when a rule is tried from nothing
+pub trying-none : {t : List ℕ} {rule : ℕ} (K : List ℕ) → RuleOf t rule → Trying t rule (none_of (rank_of t rule)) K (rank_of t rule)
+trying-none {t} {rule} K o = record {
+  partial = record { few = few; past = λ k a b. open_none (rank_of t rule) k; blank = λ k a b. blank_none (rank_of t rule) k };
+  count = refl;
+  drawn = λ k a n. absurd (n (open_none (rank_of t rule) k));
+  fewer = open-count (rank_of t rule) few;
+}
+  where
+    few : rank_of t rule ≤ 3
+    few = (fine t rule o).rank
 
 -- what the first i rules give has been added to nothing in a: now the first m of b, which is as long
 pub record ByFirst (t ws K : List ℕ) (h : ℕ) (a : List ℕ) (i : ℕ) (b : List ℕ) (m : ℕ) : Type 0 where
   pub long : length b ≡ length a
-  pub fit : m ≤ length a
-  pub filled : Filled K (h + 1) (ByRules t ws K h i) a 0 b m
+  pub filled : Filled K (h + 1) (ByRules t ws K h i) a 0 b (counted m)
 
 -- rule by rule
 module _ {t ws K : List ℕ} {h : ℕ} {a : List ℕ} where
-  pub rules-begin : Ready K (h + 1) a 0 → ByFirst t ws K h a 0 a 0
-  rules-begin y = record { long = refl; fit = omega arith; filled = nothing_yet y (λ x w. omega (arith, w.below)) }
+  pub rules-begin : Ready a 0 → ByFirst t ws K h a 0 a 0
+  rules-begin y = record { long = refl; filled = nothing_yet y (λ x w. omega (arith, w.below)) }
 
   pub rules-same : {i : ℕ} {b b' : List ℕ} {m m' : ℕ} → b' ≡ b → m' ≡ m → ByFirst t ws K h a i b m → ByFirst t ws K h a i b' m'
   rules-same {i} {b} {b'} {m} {m'} e f w = subst (λ (c : List ℕ). ByFirst t ws K h a i c m') (sym e) (subst (λ (n : ℕ). ByFirst t ws K h a i b n) (sym f) w)
 
   module _ {b : List ℕ} {m : ℕ} (i : ℕ) (w : ByFirst t ws K h a i b m) where
-    pub rules-end : check_table t ≡ got tt → i ≡ number t 7 → Filled K (h + 1) (Level (KeyGiven t ws) K h) a 0 b m
+    pub rules-end : check_table t ≡ got tt → i ≡ number t 7 → Filled K (h + 1) (Level (KeyGiven t ws) K h) a 0 b (counted m)
     rules-end e q = same w.filled (λ x v. by_level t ws K h i x e v (omega arith)) (λ x v. rw q (level_by t ws K h x v))
 
     -- a rule more, of which nothing is tried that is not tried by those before
     pub rules-skip : ((x : ℕ) → ByRules t ws K h (i + 1) x → ByRules t ws K h i x) → ByFirst t ws K h a (i + 1) b m
-    rules-skip f = record { long = w.long; fit = w.fit; filled = same w.filled (λ x s. record { index = s.index; below = omega (arith, s.below); tried = s.tried }) f }
+    rules-skip f = record { long = w.long; filled = same w.filled (λ x s. record { index = s.index; below = omega (arith, s.below); tried = s.tried }) f }
 
-    module _ {c : List ℕ} {r : ℕ} (v : Filled K (h + 1) (Tried t ws (place t i) (blank_item (h + 1)) (none_of (rank_of t (place t i))) K) b m c r) where
-      pub rules-turn : length c ≡ length b → r ≤ length c → ByFirst t ws K h a (i + 1) c r
-      rules-turn len l = record {
+    module _ {c : List ℕ} where
+      pub rules-turn : {r : ℕ} → Filled K (h + 1) (Tried t ws (place t i) (blank_item (h + 1)) (none_of (rank_of t (place t i))) K) b m c (counted r)
+          → length c ≡ length b → ByFirst t ws K h a (i + 1) c r
+      rules-turn v len = record {
         long = len ∙ w.long;
-        fit = omega (arith, w.long);
-        filled = then w.filled w.fit w.long v (λ x s. record { index = s.index; below = omega (arith, s.below); tried = s.tried }) (λ x s. record { index = i; below = omega arith; tried = s }) (by_cases t ws K h i);
+        filled = then w.filled w.long v (λ x s. record { index = s.index; below = omega (arith, s.below); tried = s.tried })
+            (λ x s. record { index = i; below = omega arith; tried = s }) (by_cases t ws K h i);
       }
 
-      pub rules-stop : check_table t ≡ got tt → i < number t 7 → length a < r → Filled K (h + 1) (Level (KeyGiven t ws) K h) a 0 c r
-      rules-stop e l q = stop w.filled w.fit w.long v q (λ x s. by_level t ws K h i x e s (omega arith)) (λ x s. by_level t ws K h (i + 1) x e (record { index = i; below = omega arith; tried = s }) (omega arith))
+      pub rules-stop : Filled K (h + 1) (Tried t ws (place t i) (blank_item (h + 1)) (none_of (rank_of t (place t i))) K) b m c too_many → check_table t ≡ got tt → i < number t 7
+          → Filled K (h + 1) (Level (KeyGiven t ws) K h) a 0 c too_many
+      rules-stop v e l = stop w.filled w.long v (λ x s. by_level t ws K h i x e s (omega arith))
+          (λ x s. by_level t ws K h (i + 1) x e (record { index = i; below = omega arith; tried = s }) (omega arith))
 
-pub ready_at : {K a : List ℕ} {n : ℕ} (h g : ℕ) → g ≡ h + 1 → Ready K (h + 1) a n → Ready K g a n
-ready_at {K} {a} {n} h g e y = subst (λ (z : ℕ). Ready K z a n) (sym e) y
+pub ready-none : (a : List ℕ) → Ready a 0
+ready-none a = record { sorted = sorted_none; count = omega arith }
 
--- for the loop over the rules: the rule at hand is the i-th, and the height is one more
-module _ {t ws K : List ℕ} {h : ℕ} where
-  pub ready-none : (a : List ℕ) → Asked t ws K h → Ready K (h + 1) a 0
-  ready-none a A = record { known = A.exact.sorted; sorted = sorted_none; count = omega arith; height = omega (arith, A.low) }
+-- for the loop over the rules, of which one is the i-th
+module _ {t ws K : List ℕ} {h : ℕ} (A : Asked t ws K h) where
+  module _ (e : check_table t ≡ got tt) where
+    pub codes-fine : (c : ℕ) → Mem c K → (1 ≤ (known_of c).item.category) × (c < 2 ^ 60)
+    codes-fine c m = code-fine t ws e A.short c (A.exact.right c m)
 
-  pub trying-at : Asked t ws K h → (i rule g : ℕ) → i < number t 7 → rule ≡ place t i → g ≡ h + 1 → Trying t ws rule (blank_item g) (none_of (rank_of t rule)) K (rank_of t rule)
-  trying-at A i rule g l e f = subst (λ (r : ℕ). Trying t ws r (blank_item g) (none_of (rank_of t r)) K (rank_of t r)) (sym e) (subst (λ (z : ℕ). Trying t ws (place t i) (blank_item z) (none_of (rank_of t (place t i))) K (rank_of t (place t i))) (sym f) (trying-none t ws K h A i l))
-
-  pub rule-ends : Asked t ws K h → (i rule : ℕ) → i < number t 7 → rule ≡ place t i → rule_end t rule ≤ length t
-  rule-ends A i rule l e = subst (λ (r : ℕ). rule_end t r ≤ length t) (sym e) ((fine-table t A.accepted).rules i l).end
+    pub rule-ends : (i rule : ℕ) → i < number t 7 → rule ≡ place t i → rule_end t rule ≤ length t
+    rule-ends i rule l q = subst (λ (r : ℕ). rule_end t r ≤ length t) (sym q) ((fine-table t e).rules i l).end
 
 pub next_place : (t : List ℕ) (i rule r : ℕ) → rule ≡ place t i → r ≡ rule_end t rule → r ≡ place t (i + 1)
 next_place t i rule r e f = f ∙ ap (rule_end t) e ∙ sym (past-suc i (rule_end t) (first_rule t)) ∙ ap (λ (n : ℕ). place t n) (omega arith)
@@ -201,7 +192,7 @@ pub first-place : (t : List ℕ) (r : ℕ) → r ≡ first_rule t → r ≡ plac
 unfolding past
 first-place t r e = e
 
-pub tried-at : (t ws K : List ℕ) (h : ℕ) {b : List ℕ} {m : ℕ} {c : List ℕ} {q : ℕ} (i rule g : ℕ) → rule ≡ place t i → g ≡ h + 1 → Filled K g (Tried t ws rule (blank_item g) (none_of (rank_of t rule)) K) b m c q
+pub tried-at : (t ws K : List ℕ) (h : ℕ) {b : List ℕ} {m : ℕ} {c : List ℕ} {q : Option ℕ} (i rule : ℕ) → rule ≡ place t i
+    → Filled K (h + 1) (Tried t ws rule (blank_item (h + 1)) (none_of (rank_of t rule)) K) b m c q
     → Filled K (h + 1) (Tried t ws (place t i) (blank_item (h + 1)) (none_of (rank_of t (place t i))) K) b m c q
-tried-at t ws K h {b} {m} {c} {q} i rule g e f w = subst (λ (z : ℕ). Filled K z (Tried t ws (place t i) (blank_item z) (none_of (rank_of t (place t i))) K) b m c q) f
-    (subst (λ (r : ℕ). Filled K g (Tried t ws r (blank_item g) (none_of (rank_of t r)) K) b m c q) e w)
+tried-at t ws K h {b} {m} {c} {q} i rule e w = subst (λ (r : ℕ). Filled K (h + 1) (Tried t ws r (blank_item (h + 1)) (none_of (rank_of t r)) K) b m c q) e w

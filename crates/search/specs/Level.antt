@@ -1,5 +1,5 @@
 -- One level of the search: keys that are set into a sorted list at one height, from what is tried.
-use Rattle.std.specs.Prelude.{◌≡◌, ◌⊎◌, ℕ, ◌+◌, ◌<◌, ◌≤◌, length, take}
+use Rattle.std.specs.Prelude.{◌≡◌, ◌⊎◌, ℕ, ◌+◌, ◌≤◌, length, take, Option, Some as counted, None as too_many}
 use mathlib.Core.List.{List, Memᴰ as Mem}
 use Rattle.store.specs.Set.{Sorted, key_of, height_of, Held}
 
@@ -15,30 +15,18 @@ pub record Adds (K : List ℕ) (h : ℕ) (S : ℕ → Type 0) (F F' : List ℕ) 
   pub origin : (c : ℕ) → Mem c F' → Mem c F ⊎ New K h S c
   pub has : (x : ℕ) → S x → Held x K ⊎ Held x F'
 
--- the first n of a are a sorted set, and K is one
-pub record Ready (K : List ℕ) (h : ℕ) (a : List ℕ) (n : ℕ) : Type 0 where
-  pub known : Sorted K
+-- the first n of a are a sorted set
+pub record Ready (a : List ℕ) (n : ℕ) : Type 0 where
   pub sorted : Sorted (take n a)
   pub count : n ≤ length a
-  pub height : h < 2048
 
--- the keys of S that are not in K have been added to the first n of a: now the first r of b; or there are more than fit
-pub data Filled (K : List ℕ) (h : ℕ) (S : ℕ → Type 0) (a : List ℕ) (n : ℕ) (b : List ℕ) (r : ℕ) : Type 0 where
-  kept : r ≤ length a → Sorted (take r b) → Adds K h S (take n a) (take r b) → Filled K h S a n b r
-  over : r ≡ length a + 1 → (E : List ℕ) → Sorted E → length E ≡ length a + 1 → ((c : ℕ) → Mem c E → Mem c (take n a) ⊎ New K h S c) → Filled K h S a n b r
+-- the keys of S that are not in K have been added to the first n of a: now they are so many of b; or there are more than fit
+pub data Filled (K : List ℕ) (h : ℕ) (S : ℕ → Type 0) (a : List ℕ) (n : ℕ) (b : List ℕ) : Option ℕ → Type 0 where
+  kept : {r : ℕ} → r ≤ length a → Sorted (take r b) → Adds K h S (take n a) (take r b) → Filled K h S a n b (counted r)
+  over : (E : List ℕ) → Sorted E → length E ≡ length a + 1 → ((c : ℕ) → Mem c E → Mem c (take n a) ⊎ New K h S c) → Filled K h S a n b too_many
 
 -- one of a list does it
 pub record Some (l : List ℕ) (P : ℕ → ℕ → Type 0) (x : ℕ) : Type 0 where
   pub which : ℕ
   pub among : Mem which l
   pub does : P which x
-
-abbrev pub Either : (ℕ → Type 0) → (ℕ → Type 0) → ℕ → Type 0
-Either S S' x = S x ⊎ S' x
-
--- a number from lo up to hi does it
-pub record Span (lo hi : ℕ) (P : ℕ → ℕ → Type 0) (x : ℕ) : Type 0 where
-  pub start : ℕ
-  pub above : lo ≤ start
-  pub below : start < hi
-  pub does : P start x

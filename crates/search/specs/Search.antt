@@ -1,6 +1,6 @@
 -- What the search finds: the keys that can be made, each at its least height. Mk says at how many levels a key is made, Gv what a function
 -- number gives from keys.
-use Rattle.std.specs.Prelude.{◌≡◌, ℕ, ◌+◌, ◌<◌, ◌≤◌, length, take}
+use Rattle.std.specs.Prelude.{◌≡◌, ℕ, ◌+◌, ◌≤◌, length, take, Option, Some, None}
 use mathlib.Core.List.{List, map, Memᴰ as Mem}
 use Rattle.meaning.specs.Order.{Each}
 use Rattle.meaning.specs.Chart.{Known, tallest, Least}
@@ -31,10 +31,10 @@ module _ (Mk : ℕ → ℕ → Type 0) where
     pub right : (c : ℕ) → Mem c some → Least Mk (keyed c)
     pub many : length some ≡ n + 1
 
-  -- what a search answers: all, in the first r of b, or one more than the room
-  pub data Found (room : ℕ) (b : List ℕ) (r : ℕ) : Type 0 where
-    all : r ≤ room → All (take r b) → Found room b r
-    full : r ≡ room + 1 → More room → Found room b r
+  -- what a search answers: all, in so many of b from its start, or that there are more than there is room for
+  pub data Found (room : ℕ) (b : List ℕ) : Option ℕ → Type 0 where
+    all : {r : ℕ} → r ≤ room → All (take r b) → Found room b (Some r)
+    full : More room → Found room b None
 
 -- what is given from codes of K of which the tallest has height h
 pub record Level (Gv : ℕ → List ℕ → ℕ → Type 0) (K : List ℕ) (h x : ℕ) : Type 0 where
@@ -52,9 +52,3 @@ pub record Begun (Mk : ℕ → ℕ → Type 0) (room h k : ℕ) (b f : List ℕ)
   pub fits : room ≤ length b
   pub fits_fresh : room ≤ length f
   pub levels : h ≤ k
-
--- one level more: the first k are now the first k + r; or that was all; or there are too many
-pub data Advanced (Mk : ℕ → ℕ → Type 0) (room h k : ℕ) (b : List ℕ) (r : ℕ) : Type 0 where
-  on : 0 < r → k + r ≤ room → Exact Mk (take (k + r) b) (h + 1) → Advanced Mk room h k b r
-  done : r ≡ 0 → All Mk (take k b) → Advanced Mk room h k b r
-  beyond : room < k + r → More Mk room → Advanced Mk room h k b r

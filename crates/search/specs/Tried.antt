@@ -1,5 +1,5 @@
 -- What a rule gives with daughters of which some are chosen, and the others are from the set K.
-use Rattle.std.specs.Prelude.{◌≡◌, cond, ◌&&◌, ℕ, zero, suc, ◌+◌, ◌/◌, ◌%◌, ◌≤◌, ◌<◌, ◌^◌, ltb, eqb, length, get_or}
+use Rattle.std.specs.Prelude.{◌≡◌, cond, ◌&&◌, ℕ, zero, suc, ◌+◌, ◌-◌, ◌*◌, ◌/◌, ◌%◌, ◌≤◌, ◌<◌, ltb, eqb, length, get_or}
 use mathlib.Core.List.{List, [], ◌∷◌, Memᴰ as Mem}
 use Rattle.meaning.specs.Order.{Each}
 use Rattle.meaning.specs.Range.{Range, Item}
@@ -9,7 +9,7 @@ use Rattle.meaning.specs.Chart.{Known}
 use Rattle.store.specs.Code.{unpacked, known_of}
 use Rattle.phrase.specs.declared.items.Item.{Item as CodedItem}
 use Rattle.phrase.specs.declared.items.Daughters.{Daughters}
-use Rattle.phrase.specs.Phrase.{RuleOf, Has, row_of}
+use Rattle.phrase.specs.Phrase.{Has, row_of}
 use Rattle.meaning.specs.Decode.{past, rule_at, rule_end, first_rule}
 use Rattle.hint.specs.declared.Wants.{Wants}
 use Rattle.hint.specs.Hint.{seat, Open, held_as, Partial, Completes, Does, Meets, Asks}
@@ -53,17 +53,10 @@ open_at d k = cond (ltb k d.count && eqb (seat d k).category 0) 1 0
 abbrev pub opens : Daughters → ℕ
 opens d = open_at d 0 + open_at d 1 + open_at d 2
 
--- what is known while a rule is tried
-pub record Trying (t ws : List ℕ) (rule : ℕ) (goal : CodedItem) (d : Daughters) (K : List ℕ) (left : ℕ) : Type 0 where
-  pub there : RuleOf t rule
-  pub short : length ws ≤ 64
-  pub most : length K ≤ 2000
-  pub any : goal.category ≡ 0
-  pub low : 1 ≤ goal.height
-  pub high : goal.height ≤ 2001
+-- how the daughters of a rule stand while it is tried: those that are chosen are of the set K, and left of them are not chosen
+pub record Trying (t : List ℕ) (rule : ℕ) (d : Daughters) (K : List ℕ) (left : ℕ) : Type 0 where
   pub partial : Partial d
   pub count : d.count ≡ rank_of t rule
-  pub codes : (c : ℕ) → Mem c K → (1 ≤ (known_of c).item.category) × (c < 2 ^ 60)
   pub drawn : (k : ℕ) → k < d.count → (Open d k → ⊥) → In (held_as (seat d k)) K
   pub fewer : left ≡ opens d
 
@@ -78,6 +71,15 @@ abbrev pub Offered : List ℕ → List ℕ → ℕ → Daughters → ℕ → Typ
 Offered t ws rule d =
     Ranged ws d (row_of t rule 0) (λ p. Ranged ws d (row_of t rule 1) (λ q. Ranged ws d (row_of t rule 2) (λ r x.
     unpacked x ≡ record { category = category_of t rule; one = p; two = q; three = r })))
+
+-- a key's digits with those of a range after them
+abbrev pub then_range : ℕ → Range → ℕ
+then_range key r = (key * 128 + r.from) * 128 + r.to
+
+-- a key that begins with these digits and goes on with a range of each of the rule's last rows, so many of three
+abbrev pub Ranges : List ℕ → List ℕ → ℕ → Daughters → ℕ → ℕ → ℕ → Type 0
+Ranges t ws rule d zero key x = x ≡ key
+Ranges t ws rule d (suc rows) key x = Ranged ws d (row_of t rule (2 - rows)) (λ r. Ranges t ws rule d rows (then_range key r)) x
 
 -- a range within a sentence of at most 64 words
 pub record Short (r : Range) : Type 0 where
@@ -96,7 +98,7 @@ AllChosen d = (k : ℕ) → k < d.count → Open d k → ⊥
 
 -- the code c of the set is tried as daughter k, of which w is asked; left daughters more are not chosen
 pub record Trial (t ws : List ℕ) (rule : ℕ) (goal : CodedItem) (d : Daughters) (K : List ℕ) (k left : ℕ) (w : Wants) (c : ℕ) : Type 0 where
-  pub trying : Trying t ws rule goal d K (left + 1)
+  pub trying : Trying t rule d K (left + 1)
   pub below : k < d.count
   pub chooses : Open d k
   pub asks : Asks t ws rule d goal k w

@@ -1,6 +1,6 @@
 -- Rules by their places: the search for a function number, the nodes noted, and where a node's daughters stand.
-use mathlib.Core.Path.{◌≡◌, refl, sym, ap, ◌∙◌, subst}
-use mathlib.Core.List.{List, [], ◌∷◌, ◌++◌, map}
+use mathlib.Core.Path.{◌≡◌, refl, sym, ◌∙◌, subst}
+use mathlib.Core.List.{List, [], ◌∷◌, map}
 use mathlib.Core.Option.{Option, none, some}
 use mathlib.Core.Bool.{Bool, true, false, cond}
 use Prim.Native.Nat.{ℕ, zero, suc, ◌+◌, ◌-◌, ◌≤◌, ◌<◌}
@@ -8,16 +8,17 @@ use native.Mathlib.Omega.{arith}
 use native.Mathlib.Decide.{dec_lt}
 use native.Mathlib.Numerals.{add-one}
 use lib.Dec.{eqb}
-use lib.ListN.{length, get_or, take, drop, set, length-map, drop_of_length-le, get_or-eq_default}
-use lib.Seq.{drop-cons, take-suc, take-suc-set}
+use lib.ListN.{length, get_or, drop, length-map, drop_of_length-le, get_or-eq_default}
+use lib.Seq.{drop-cons}
 use Rattle.meaning.specs.Grammar.{Rule}
 use Rattle.meaning.specs.Table.{got, number, rank_of, check_table}
 use Rattle.meaning.specs.Decode.{past, several, rule_at, rule_end, first_rule, grammar_of}
 use Rattle.meaning.specs.Accepted.{FineRule, FineTable}
 use Rattle.meaning.specs.TreeWriting.{named}
 use Rattle.meaning.proofs.Places.{rule-grows', first-is}
-use Rattle.rules.specs.declared.walk.Found.{Found}
-use Rattle.rules.specs.declared.walk.Found.TheVariants.{At, Unknown}
+use Rattle.std.specs.Prelude.{Option as Result_of, Some, None, MatchOption}
+use Rattle.rules.specs.declared.rule.Rule.{Rule as Found}
+use Rattle.rules.specs.Found.{found_at as place_in}
 use Rattle.rules.specs.Walk.{Finds, known, unknown}
 use Rattle.rules.proofs.Once.{finds-once}
 use Rattle.sentence.specs.Nodes.{seek, place_for, rule_of, Within, taken}
@@ -88,37 +89,34 @@ module _ (t : List ℕ) (v : FineTable t) where
       go i (yes l) = let f = fine-node fs i (omega arith) in omega (arith, f.within)
       go i (no l) = omega arith
 
--- what the table's own search finds is this place
-at_same : {p q : ℕ} → At p ≡ At q → p ≡ q
-at_same e = cc
+-- what the table's own search finds is this place, or there is none
+found-there : (t : List ℕ) (f : ℕ) → check_table t ≡ got tt → 0 < place_for t f → Finds t f (Some (place_for t f))
+found-there t f ok h =
+    let (i, l, e) = seek_found (number t 7) t f (first_rule t) h in
+    known (record { accepted = ok; index = i; below = l; there = e }) (place-named t f ∙ rule-of t (place_for t f) h)
 
-not-unknown : {p : ℕ} → At p ≡ Unknown → ⊥
-not-unknown e = let z : ◌≡◌ {A = ℕ} 0 1 = cc in omega arith
+found-none : (t : List ℕ) (f : ℕ) → place_for t f ≡ 0 → Finds t f None
+found-none t f z = unknown (place-named t f ∙ no-rule t (place_for t f) z)
 
-pub found-place : (t : List ℕ) (f : ℕ) → check_table t ≡ got tt → {r : Found} → Finds t f r → ((p : ℕ) → r ≡ At p → p ≡ place_for t f) × (r ≡ Unknown → 0 ≡ place_for t f)
-found-place t f ok {r} F = go (dec_lt 0 (place_for t f))
+known-place : (t : List ℕ) (f : ℕ) → check_table t ≡ got tt → {p : ℕ} → Finds t f (Some p) → p ≡ place_for t f
+known-place t f ok {p} F = go (dec_lt 0 (place_for t f))
   where
-    go : Dec (0 < place_for t f) → ((p : ℕ) → r ≡ At p → p ≡ place_for t f) × (r ≡ Unknown → 0 ≡ place_for t f)
-    go (yes h) =
-        let (i, l, e) = seek_found (number t 7) t f (first_rule t) h in
-        let q = finds-once t f F (known (record { accepted = ok; index = i; below = l; there = e }) (place-named t f ∙ rule-of t (place_for t f) h)) in
-        (λ p x. at_same (sym x ∙ q), λ x. absurd (not-unknown (sym q ∙ x)))
-    go (no h) =
-        let z : place_for t f ≡ 0 = omega arith in
-        let q = finds-once t f F (unknown (place-named t f ∙ no-rule t (place_for t f) z)) in
-        (λ p x. absurd (not-unknown (sym x ∙ q)), λ x. sym z)
+    go : Dec (0 < place_for t f) → p ≡ place_for t f
+    go (yes h) = let q = finds-once t f F (found-there t f ok h) in cc
+    go (no h) = let q = finds-once t f F (found-none t f (omega arith)) in let z : ◌≡◌ {A = ℕ} 0 1 = cc in absurd (omega arith)
 
--- one node more is noted
-map_snoc : (g : ℕ → ℕ) (xs : List ℕ) (x : ℕ) → map g (xs ++ (x ∷ [])) ≡ map g xs ++ (g x ∷ [])
-map_snoc g [] x = refl
-map_snoc g (y ∷ xs) x = ap (λ (l : List ℕ). g y ∷ l) (map_snoc g xs x)
+unknown-place : (t : List ℕ) (f : ℕ) → check_table t ≡ got tt → Finds t f None → 0 ≡ place_for t f
+unknown-place t f ok F = go (dec_lt 0 (place_for t f))
+  where
+    go : Dec (0 < place_for t f) → 0 ≡ place_for t f
+    go (yes h) = let q = finds-once t f F (found-there t f ok h) in let z : ◌≡◌ {A = ℕ} 0 1 = cc in absurd (omega arith)
+    go (no h) = omega arith
 
-pub note-turn :
-    (g : ℕ → ℕ) (ns fs : List ℕ) (i x : ℕ) → i < length fs → length ns ≡ length fs → x ≡ g (get_or fs i 0) → take i ns ≡ map g (take i fs)
-    → take (i + 1) (set ns i x) ≡ map g (take (i + 1) fs)
-note-turn g ns fs i x h l q e =
-    let m : i < length ns = omega arith in
-    rw (add-one, take-suc-set ns i x m, take-suc fs i 0 h, map_snoc, e, q)
+-- the place of the rule that is found, or 0 where there is none
+pub place-found : (t : List ℕ) (f : ℕ) → check_table t ≡ got tt → (r : Result_of Found) {n : ℕ} {P : Found → Type 0} → Finds t f (place_in r)
+    → ((x : Found) → P x → n ≡ x.at) → MatchOption r (n ≡ 0) P → n ≡ place_for t f
+place-found t f ok (Some x) F is m = is x m ∙ known-place t f ok F
+place-found t f ok None F is m = m ∙ unknown-place t f ok F
 
 -- one node more is taken for the daughters before one
 module _ (t : List ℕ) where

@@ -18,8 +18,9 @@ use Rattle.meaning.proofs.Codes.{refusal-code, refusal_of, refusal-told}
 use Rattle.meaning.proofs.Decoded.{valid-grammar}
 use Rattle.meaning.proofs.Walk.{one-tree}
 use Rattle.meaning.proofs.Determined.{Same, same-sentence}
-use Rattle.sentence.specs.declared.Answer.{Answer}
-use Rattle.sentence.specs.declared.Answer.TheVariants.{Refused, TreeList, TextRoom, Words}
+use Rattle.std.specs.Prelude.{Result, Ok, Err}
+use Rattle.sentence.specs.declared.refusal.SentenceRefusal.{SentenceRefusal}
+use Rattle.sentence.specs.declared.refusal.SentenceRefusal.TheVariants.{Table, TreeList, TextRoom}
 use Rattle.sentence.specs.Answers.{code_of, place_of, count_of}
 
 -- n words stand at the front of the text after the call: those of the one tree that the list is; the rest is as lent
@@ -64,19 +65,22 @@ pub tree-spelled :
 tree-spelled {t} {b} T e o h m x = same-sentence t (functions T) b x (wrote {t = T} e h (record { kind = o; told = refl }) m)
 
 -- the answer with a code, a place and a count
+abbrev Answer : Type 0
+Answer = Result ℕ SentenceRefusal
+
 abbrev answer_of : ℕ → ℕ → ℕ → Answer
 answer_of c p n =
-    cond (eqb c (code_of (Words n))) (Words n)
-    (cond (eqb c (code_of (TreeList p))) (TreeList p) (cond (eqb c (code_of (TextRoom p))) (TextRoom p) (Refused (refusal_of c p))))
+    cond (eqb c (code_of (Ok n))) (Ok n)
+    (cond (eqb c (code_of (Err (TreeList p)))) (Err (TreeList p)) (cond (eqb c (code_of (Err (TextRoom p)))) (Err (TextRoom p)) (Err (Table (refusal_of c p)))))
 
 answer-told : (r : Answer) → answer_of (code_of r) (place_of r) (count_of r) ≡ r
-answer-told (Refused r) =
+answer-told (Err (Table r)) =
     let k = refusal.code_of r in
     let (low, high) = refusal-code r in
-    rw (ne_eqb k 0 (λ e. omega arith), ne_eqb k 20 (λ e. omega arith), ne_eqb k 21 (λ e. omega arith)) (ap Refused (refusal-told r))
-answer-told (TreeList p) = refl
-answer-told (TextRoom n) = refl
-answer-told (Words n) = refl
+    rw (ne_eqb k 0 (λ e. omega arith), ne_eqb k 20 (λ e. omega arith), ne_eqb k 21 (λ e. omega arith)) (ap (λ q. Err (Table q)) (refusal-told r))
+answer-told (Err (TreeList p)) = refl
+answer-told (Err (TextRoom n)) = refl
+answer-told (Ok n) = refl
 
 -- the three numbers tell the answer
 same_numbers : (r r' : Answer) → code_of r ≡ code_of r' → place_of r ≡ place_of r' → count_of r ≡ count_of r' → r ≡ r'

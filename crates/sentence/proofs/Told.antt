@@ -4,21 +4,25 @@ use mathlib.Core.List.{List, [], ◌∷◌, ◌++◌, map, append-nil, Memᴰ as
 use mathlib.Core.Option.{none}
 use Prim.Native.Nat.{ℕ, zero, suc, ◌+◌, ◌*◌, ◌≤◌, ◌<◌}
 use native.Mathlib.Omega.{arith}
-use lib.ListN.{length, take, drop, length-map}
-use lib.Seq.{sets, sets-eq, take_at}
+use lib.ListN.{length, drop}
+use lib.Seq.{sets, sets-eq}
 use Rattle.meaning.specs.Grammar.{Rule, Tree, node, Trees, bare, and, Of, OfAll, of_more, functions, preorder}
-use Rattle.meaning.specs.Table.{got, byte, number, category_of, dimension_of, check_table}
+use Rattle.std.specs.Prelude.{Result, Ok, Err, IsErrAnd}
+use Rattle.meaning.specs.declared.Refusal.{Refusal}
+use Rattle.meaning.specs.Table.{got, refused, byte, number, category_of, dimension_of, check_table}
 use Rattle.meaning.specs.Decode.{past, several, row_at, row_end, rows_of, rule_at, rule_end, first_rule, grammar_of}
 use Rattle.meaning.specs.Accepted.{FineRule, FineTable}
 use Rattle.meaning.specs.TreeWriting.{named}
-use Rattle.meaning.specs.SentenceWriting.{Reads, words, SentenceWritten, wrong, no_room, wrote}
+use Rattle.meaning.specs.SentenceWriting.{Reads, words, SentenceWritten, bad_table, wrong, no_room, wrote}
 use Rattle.meaning.proofs.Ends.{fine-table}
 use Rattle.meaning.proofs.Places.{dim-most}
 use Rattle.meaning.proofs.Decoded.{several-length, several-mem, valid-grammar}
 use Rattle.meaning.proofs.Walk.{Grown, grown_none, grown_more, accepted, of-grown}
 use Rattle.sentence.specs.Nodes.{place_for, rule_of, Within, walked}
 use Rattle.sentence.specs.Speech.{whole}
-use Rattle.sentence.specs.Answers.{Finished, cramped, written, Judged, astray, sound}
+use Rattle.sentence.specs.declared.refusal.SentenceRefusal.{SentenceRefusal}
+use Rattle.sentence.specs.declared.refusal.SentenceRefusal.TheVariants.{Table}
+use Rattle.sentence.specs.Answers.{code_of, place_of, count_of, Finished, cramped, written, Judged, astray, sound}
 use Rattle.sentence.proofs.Places.{place-named, fine-node, within_of}
 use Rattle.sentence.proofs.Walks.{fault-is}
 use Rattle.sentence.proofs.Spelling.{Stands, good-spelling}
@@ -127,6 +131,9 @@ module _ (t : List ℕ) (ok : check_table t ≡ got tt) (fs : List ℕ) (few : l
 pub finish-text : (ws before after : List ℕ) (n : ℕ) → n ≡ 0 + length ws → n ≤ length before → after ≡ sets before 0 ws → after ≡ ws ++ drop n before
 finish-text ws before after n e l a = a ∙ sets-eq ws before 0 (omega arith) ∙ ap (λ (m : ℕ). ws ++ drop m before) (sym e)
 
--- the nodes stand at the front of the slice that they were noted in
-pub kept-places : (t fs ns rest : List ℕ) → ns ≡ map (place_for t) fs → take (length fs) (ns ++ rest) ≡ map (place_for t) fs
-kept-places t fs ns rest e = take_at ns rest (length fs) (ap length e ∙ length-map fs (place_for t)) ∙ e
+-- where the table is refused, `?` answers that refusal
+pub table-refused :
+    (t fs before : List ℕ) {why : Refusal} (r : Result ℕ SentenceRefusal) → IsErrAnd r (λ e. e ≡ Table why) → refused why ≡ check_table t
+    → SentenceWritten t fs before (code_of r) (place_of r) (count_of r) before
+table-refused t fs before (Ok n) h e = absurd h
+table-refused t fs before {why} (Err x) h e = rw h (bad_table (sym e))

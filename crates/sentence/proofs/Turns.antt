@@ -94,13 +94,10 @@ module _ (t ns : List ℕ) where
   pub heard-word : (n at place : ℕ) → byte t place ≡ 0 → heard t (below t ns n at) place ≡ number t (place + 1) ∷ []
   heard-word n at place e = rw (eq-eqb (byte t place) 0 e)
 
-  pub heard-is :
-      (n at place kind k d num e : ℕ) → kind ≡ byte t place → (kind ≡ 0 → ⊥) → k ≡ kind - 1 → d ≡ daughter t ns at k
-      → num ≡ number t (place + 1) → e ≡ num - 1
+  pub heard-part :
+      (n at place k d e : ℕ) → (byte t place ≡ 0 → ⊥) → k ≡ byte t place - 1 → d ≡ daughter t ns at k → e ≡ number t (place + 1) - 1
       → heard t (below t ns n at) place ≡ spelled t ns n d e
-  heard-is n at place kind k d num e p q f g h j =
-      let z : byte t place ≡ 0 → ⊥ = λ x. q (p ∙ x) in
-      rw (ne_eqb (byte t place) 0 z, j, h, g, f, p)
+  heard-part n at place k d e z f g h = rw (ne_eqb (byte t place) 0 z, h, g, f)
 
   pub daughter-most : (n at k d : ℕ) → d ≡ daughter t ns at k → length ns ≤ 255 → n < 255 → at + n < 510 → d + n ≤ 510
   daughter-most n at k d e f g h = let m = taken-most t (drop (at + 1) ns) k in let l = length-drop (at + 1) ns in omega arith

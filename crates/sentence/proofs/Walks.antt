@@ -1,11 +1,14 @@
 -- The walk over noted nodes: it is meaning's walk over the list, and one turn of it with the wanted categories on a stack.
-use mathlib.Core.Path.{◌≡◌, refl, ap, ◌∙◌}
+use mathlib.Core.Path.{◌≡◌, refl, sym, ap, ◌∙◌}
+use mathlib.Core.Bool.{Bool, true, false}
 use mathlib.Core.List.{List, [], ◌∷◌, ◌++◌, map, append_assoc}
 use mathlib.Core.Option.{Option, none, some}
 use Prim.Native.Nat.{ℕ, zero, suc, ◌+◌, ◌-◌, ◌≤◌, ◌<◌}
 use native.Mathlib.Omega.{arith}
 use native.Mathlib.Numerals.{add-one}
-use borrow.Author.Tests.{eq-eqb, ne_eqb}
+use borrow.Author.Tests.{eq-eqb, ne_eqb, ltb-true, ltb-false}
+use lib.Dec.{ltb}
+use Rattle.std.specs.Bool.{then_some}
 use lib.ListN.{length, get_or, drop, set, drop_of_length-le}
 use lib.Seq.{drop-cons}
 use Rattle.meaning.specs.Grammar.{Rule}
@@ -14,7 +17,7 @@ use Rattle.meaning.specs.Decode.{several, rule_at, grammar_of}
 use Rattle.meaning.specs.SentenceWriting.{fits, walk, fault}
 use Rattle.table.specs.Views.{firsts}
 use Rattle.table.proofs.Laws.{firsts-set}
-use Rattle.sentence.specs.Nodes.{place_for, rule_of, walked}
+use Rattle.sentence.specs.Nodes.{place_for, rule_of, walked, walked_of}
 use Rattle.sentence.proofs.Places.{rule-of, place-named}
 
 -- the walk over names that are looked up in two steps
@@ -77,6 +80,14 @@ module _ (t ns : List ℕ) (i w : ℕ) (s : List ℕ) where
   pub walk-short : 0 < w → i ≡ length ns → Here ≡ some (length ns)
   unfolding walk
   walk-short l h = let m : length ns ≤ i = omega arith in rw (top l, drop_of_length-le ns {i = i} m) (ap some h)
+
+  -- the last node was walked over
+  pub walk-end : i ≡ length ns → walked_of (then_some (ltb 0 w) (length ns)) ≡ Here
+  walk-end e = go (ltb 0 w) refl
+    where
+      go : (b : Bool) → ltb 0 w ≡ b → walked_of (then_some b (length ns)) ≡ Here
+      go true l = sym (walk-short (ltb-true 0 w l) e)
+      go false l = sym (walk-whole (omega (arith, ltb-false 0 w l)) (omega arith))
 
   walk_step :
       0 < w → i < length ns

@@ -1,32 +1,32 @@
 -- The sentence writer's answer as numbers: document 01, 'Numbers handed back'; and what the code finds over noted nodes.
-use Rattle.std.specs.Prelude.{ℕ, ◌≤◌, ◌<◌, ◌≡◌, List, ◌++◌, length, drop}
+use Rattle.std.specs.Prelude.{ℕ, ◌≤◌, ◌<◌, ◌≡◌, List, ◌++◌, length, drop, Result, Ok, Err}
 use Rattle.std.proofs.Math.Option.{none, some}
 use Rattle.meaning.specs.Refusals as refusal
-use Rattle.sentence.specs.declared.Answer.{Answer}
-use Rattle.sentence.specs.declared.Answer.TheVariants.{Refused, TreeList, TextRoom, Words}
+use Rattle.sentence.specs.declared.refusal.SentenceRefusal.{SentenceRefusal}
+use Rattle.sentence.specs.declared.refusal.SentenceRefusal.TheVariants.{Table, TreeList, TextRoom}
 use Rattle.sentence.specs.Nodes.{walked}
 use Rattle.sentence.specs.Speech.{whole}
 
 -- the column 'Code': a table's refusal has its own; '20 Tree list'; '21 Text room'; 'code 0'
-abbrev pub code_of : Answer → ℕ
-code_of (Refused r) = refusal.code_of r
-code_of (TreeList p) = 20
-code_of (TextRoom n) = 21
-code_of (Words n) = 0
+abbrev pub code_of : Result ℕ SentenceRefusal → ℕ
+code_of (Err (Table r)) = refusal.code_of r
+code_of (Err (TreeList p)) = 20
+code_of (Err (TextRoom n)) = 21
+code_of (Ok n) = 0
 
 -- the column 'Place': 'node index'; 'words needed'; 'place 0'
-abbrev pub place_of : Answer → ℕ
-place_of (Refused r) = refusal.place_of r
-place_of (TreeList p) = p
-place_of (TextRoom n) = n
-place_of (Words n) = 0
+abbrev pub place_of : Result ℕ SentenceRefusal → ℕ
+place_of (Err (Table r)) = refusal.place_of r
+place_of (Err (TreeList p)) = p
+place_of (Err (TextRoom n)) = n
+place_of (Ok n) = 0
 
 -- 'answers their number as count'; 'A refusal has count 0.'
-abbrev pub count_of : Answer → ℕ
-count_of (Refused r) = 0
-count_of (TreeList p) = 0
-count_of (TextRoom n) = 0
-count_of (Words n) = n
+abbrev pub count_of : Result ℕ SentenceRefusal → ℕ
+count_of (Err (Table r)) = 0
+count_of (Err (TreeList p)) = 0
+count_of (Err (TextRoom n)) = 0
+count_of (Ok n) = n
 
 -- the words are written, or there is no room for them
 pub data Finished (ws before : List ℕ) : ℕ → ℕ → ℕ → List ℕ → Type 0 where

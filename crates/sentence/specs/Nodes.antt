@@ -8,8 +8,7 @@ use Rattle.meaning.specs.Decode.{rule_at, rule_end, first_rule}
 use Rattle.meaning.specs.Accepted.{FineRule}
 use Rattle.meaning.specs.SentenceWriting.{walk}
 use Rattle.table.specs.Views.{firsts}
-use Rattle.sentence.specs.declared.walk.Walked.{Walked}
-use Rattle.sentence.specs.declared.walk.Walked.TheVariants.{Whole, Wrong}
+use Rattle.std.specs.Prelude as code
 
 -- the place of the first of n rules, from a place on, that has a function number; 0 where there is none
 unfoldable pub seek : ℕ → List ℕ → ℕ → ℕ → ℕ
@@ -36,9 +35,9 @@ abbrev pub walked : List ℕ → List ℕ → Option ℕ
 walked t ns = walk (rule_of t) 0 (byte t 6 ∷ []) ns
 
 -- what the code answers of it
-abbrev pub walked_of : Walked → Option ℕ
-walked_of Whole = none
-walked_of (Wrong i) = some i
+abbrev pub walked_of : code.Option ℕ → Option ℕ
+walked_of code.None = none
+walked_of (code.Some i) = some i
 
 -- of a stack whose first n numbers count, the latest first: the categories of a rule's daughters are put on it, the first on top
 pub record Pushed (t : List ℕ) (rule n : ℕ) (before after : List ℕ) (r : ℕ) : Type 0 where

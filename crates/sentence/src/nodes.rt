@@ -1,59 +1,59 @@
 // The nodes of a tree list, noted by the places of their rules in the table.
 ghost use Rattle.std.specs.Prelude.{◌≡◌, map, ◌≤◌, length, get_or};
-ghost use Rattle.meaning.specs.Table.{got, check_table};
 ghost use Rattle.sentence.specs.Nodes as spec;
 ghost use Rattle.sentence.specs.Nodes.{place_for, Within};
 
-use fields::{byte_at, size};
-use rules::{Found, find_rule};
+use fields::byte_at;
+use rules::{Table, find_rule};
+
+// The noted nodes of a list: the place of each node's rule.
+#[derive(Clone, Copy)]
+pub(crate) struct Nodes<'a> {
+    pub(crate) table: &'a [u8],
+    pub(crate) places: &'a [usize],
+    ghost within: { Within table.now places.now },
+}
+
+impl Nodes<'_> {
+    // The place of a node's rule, 0 past the last node.
+    // Kept: 0 is what `spelled`, whose meaning stays, reads there.
+    pub(crate) fn node_at(self, at: usize) -> usize
+        ensures { result ≡ get_or self.entry.places.now at 0 }
+    {
+        self.places.get(at).copied().unwrap_or(0)
+    }
+
+    // Where daughter k of the node at a place stands, both from 0.
+    pub(crate) fn daughter(self, at: usize, k: usize) -> usize
+        requires { (at ≤ 510) × (k ≤ 65535) }
+        ensures { result ≡ spec.daughter self.entry.table.now self.entry.places.now at k }
+    {
+        let mut left = k;
+        for place in at + 1..self.places.len() {
+            if left == 0 {
+                return place;
+            }
+            left = left - 1 + usize::from(byte_at(self.table, self.places[place] + 3));
+        }
+        self.places.len().max(at + 1)
+    }
+}
 
 // The place of the rule with a function number; 0 where there is none.
-fn place_for(table: &[u8], function: u16) -> usize
-    requires { check_table table.now ≡ got tt }
-    ensures { result ≡ place_for table.now function }
+// Kept: a noted place is one number, and `place_for` and `Within`, whose meaning stays, have 0 for no rule.
+fn place_for(table: Table, function: u16) -> usize
+    ensures { result ≡ place_for table.entry.bytes.now function }
 {
-    let found = find_rule(table, function);
-    match found {
-        Found::At(place) => place,
-        Found::Unknown => 0,
-    }
+    find_rule(table, function).map_or(0, |rule| rule.at)
 }
 
 // Notes the place of each node's rule.
-pub(crate) fn note(table: &[u8], list: &[u16], nodes: &mut [usize])
-    requires table_value { check_table table.now ≡ got tt }
-    requires nodes_len { length nodes.old ≡ length list.now }
-    ensures { nodes.new ≡ map (place_for table.now) list.now }
+pub(crate) fn note(table: Table, list: &[u16], places: &mut [usize])
+    requires { length places.old ≡ length list.now }
+    ensures { places.new ≡ map (place_for table.entry.bytes.now) list.now }
 {
-    let mut i = 0;
-    while i < list.len() {
-        nodes[i] = place_for(table, list[i]);
-        i += 1;
+    // Kept: of what a loop over `iter_mut().zip(..)` has written, a proof knows nothing, so each place is set by its index.
+    for (i, &function) in list.iter().enumerate() {
+        places[i] = place_for(table, function);
     }
-}
-
-// The place of a node's rule, 0 past the last node.
-pub(crate) fn node_at(nodes: &[usize], at: usize) -> usize
-    ensures { result ≡ get_or nodes.now at 0 }
-{
-    if at < nodes.len() { nodes[at] } else { 0 }
-}
-
-// Where daughter k of the node at a place stands, both from 0.
-pub(crate) fn daughter(table: &[u8], nodes: &[usize], at: usize, k: usize) -> usize
-    requires within { Within table.now nodes.now }
-    requires at_bound { (at ≤ 510) × (k ≤ 255) }
-    ensures { result ≡ spec.daughter table.now nodes.now at k }
-{
-    let mut place = at + 1;
-    let mut left = k;
-    while left > 0 {
-        if nodes.len() <= place {
-            return place;
-        }
-        let fourth = nodes[place] + 3;
-        left = left - 1 + size(byte_at(table, fourth));
-        place += 1;
-    }
-    place
 }

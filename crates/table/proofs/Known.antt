@@ -1,42 +1,26 @@
--- What is known of a rule while it is read: what the readers' `requires` ask.
-use Prim.Native.Nat.{ℕ, ◌+◌, ◌-◌, ◌≤◌, ◌<◌}
-use mathlib.Core.Path.{◌≡◌, refl, sym, subst}
-use mathlib.Core.Bool.{Bool, false, not}
+-- What is known of a rule while it is read: what the type of its head and the readers' `requires` ask.
+use Prim.Native.Nat.{ℕ, ◌+◌, ◌-◌, ◌≤◌}
+use mathlib.Core.Path.{◌≡◌, subst}
+use mathlib.Core.Bool.{false}
 use mathlib.Core.List.{List}
 use native.Mathlib.Omega.{arith}
 use lib.ListN.{length}
 use Rattle.meaning.specs.declared.Refusal.TheVariants.{Category}
-use Rattle.meaning.specs.Table.{got, ◌>>=◌, times, any, outside, byte, category, Used, rank_of, daughter_of, dimension_of}
+use Rattle.meaning.specs.Table.{got, times, outside, byte, category, rank_of, daughter_of, dimension_of}
 use Rattle.meaning.specs.Accepted.{Dims, Headed}
-use Rattle.meaning.proofs.Fields.{inside, limited-there, times-there}
-use Rattle.table.specs.declared.cursor.Step.{Step}
-use Rattle.table.specs.declared.cursor.Step.TheVariants.{Next, Refused}
-use Rattle.table.specs.Views.{step_of, step_with, Small}
+use Rattle.meaning.proofs.Fields.{inside, limited-there, times-there, symbol-there, header-there, dims-there}
+use Rattle.table.specs.Views.{Small}
 
 -- a constituent that passed its tests lies within the marks
-pub part-inside :
+pub part_inside :
     (t : List ℕ) (rule kind n r d : ℕ) → Small t rule → 1 ≤ kind → r ≡ rank_of t rule → kind ≤ r
     → d ≡ dimension_of t (daughter_of t rule kind) → outside 1 d n ≡ false → (1 ≤ n) × (n ≤ 3) × (kind ≤ 3)
-part-inside t rule kind n r d s k e h e' o =
+part_inside t rule kind n r d s k e h e' o =
     let i = inside 1 d n o in
     let b : kind ≤ rank_of t rule = rw e at h in
     let m = s.dims kind k b in
     let w = s.rank in
     (i.0, omega arith, omega arith)
-
--- a turn of the search for an unused constituent: the daughter n's answer is the definition's of the number n - 1
-pub missing-turn :
-    (t : List ℕ) (rule n d s : ℕ) (used : Used) (r : Bool) → 0 < n → d ≡ dimension_of t (daughter_of t rule n) → s ≡ n - 1
-    → r ≡ any d (λ c. not (used s c))
-    → any (dimension_of t (daughter_of t rule (n - 1 + 1))) (λ c. not (used (n - 1) c)) ≡ r
-missing-turn t rule n d s used r h e₁ e₂ e₃ =
-    let e : n - 1 + 1 ≡ n = omega arith in
-    rw (e, ← e₁, ← e₂) (sym e₃)
-
--- a step that leaves something behind is the step, with it
-pub step-with : {A : Type 0} (r : Step) (a : A) → step_with r a ≡ step_of r >>= (λ next. got (next, a))
-step-with (Next c) a = refl
-step-with (Refused r) a = refl
 
 -- the daughters that were read
 pub small-there : (t : List ℕ) (rule at next : ℕ) → Dims t → Headed t rule at → times (rank_of t rule) (category t) at ≡ got next → Small t rule
@@ -47,3 +31,5 @@ small-there t rule at next dims head e = record { within = head.within; rank = h
         let r = times-there (λ q. (1 ≤ byte t q) × (byte t q ≤ byte t 5) × (q + 1 ≤ length t)) (category t) (λ q n. limited-there t 1 (byte t 5) (Category q) q n) (rank_of t rule) at next e (k - 1) (omega arith) in
         let p : at + (k - 1) ≡ rule + 3 + k = omega (arith, head.next) in
         subst (λ (q : ℕ). dimension_of t (byte t q) ≤ 3) p (dims (byte t (at + (k - 1))) r.0 r.1)
+
+pub ruleset read = (symbol-there, small-there, header-there, dims-there)

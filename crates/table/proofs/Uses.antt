@@ -1,9 +1,9 @@
--- The use marks: a mark set is a use marked, and the array stays three by three.
+-- The use marks: a mark that is set is a use marked, and nothing is marked at first.
 use Prim.Native.Nat.{ℕ, zero, suc, ◌<◌}
 use mathlib.Core.Path.{◌≡◌, refl, sym, ap, ◌∙◌, fun_ext}
 use mathlib.Core.Bool.{Bool, true, false, ◌||◌, ◌&&◌}
 use mathlib.Core.List.{List, [], ◌∷◌}
-use lib.ListN.{length, get_or, set, length-set}
+use lib.ListN.{length, get_or, set}
 use lib.Seq.{get_or-set_same, get_or-set_other}
 use lib.Dec.{eqb}
 use borrow.Author.Tests.{eqb-true, eqb-false}
@@ -32,16 +32,6 @@ module _ (m : List (List Bool)) (k c : ℕ) (hk : k < 3) (hc : c < 3) (s : Squar
       go k' c' false e =
           ap (λ (l : List Bool). get_or l c' false) (get_or-set_other m k k' (set (get_or m k []) c true) [] (λ p. eqb-false k k' e (sym p)))
 
-  pub still : Square (set m k (set (get_or m k []) c true))
-  still = record { rows = length-set m k _ ∙ s.rows; each = λ k' h. go k' h (eqb k k') refl }
-    where
-      go : (k' : ℕ) → k' < 3 → (b : Bool) → eqb k k' ≡ b → length (get_or (set m k (set (get_or m k []) c true)) k' []) ≡ 3
-      go k' h true e =
-          rw (← eqb-true k k' e)
-          (let h : k < length m = omega (arith, s.rows) in
-          ap length (get_or-set_same m k (set (get_or m k []) c true) [] h) ∙ length-set (get_or m k []) c true ∙ s.each k hk)
-      go k' h false e = ap length (get_or-set_other m k k' (set (get_or m k []) c true) [] (λ p. eqb-false k k' e (sym p))) ∙ s.each k' h
-
 -- the marks of a rule that has not been read yet
 no-mark : (c : ℕ) → get_or (false ∷ false ∷ false ∷ []) c false ≡ false
 no-mark zero = refl
@@ -52,21 +42,12 @@ no-mark (suc (suc (suc c))) = refl
 abbrev pub blank : List (List Bool)
 blank = (false ∷ false ∷ false ∷ []) ∷ (false ∷ false ∷ false ∷ []) ∷ (false ∷ false ∷ false ∷ []) ∷ []
 
-pub none-marked : used_of blank ≡ unused
+pub none_marked : used_of blank ≡ unused
 unfolding unused
-none-marked = fun_ext (λ k. fun_ext (λ c. go k c))
+none_marked = fun_ext (λ k. fun_ext (λ c. go k c))
   where
     go : (k c : ℕ) → used_of blank k c ≡ false
     go zero c = no-mark c
     go (suc zero) c = no-mark c
     go (suc (suc zero)) c = no-mark c
     go (suc (suc (suc k))) c = refl
-
-pub blank-square : Square blank
-blank-square = record { rows = refl; each = go }
-  where
-    go : (k : ℕ) → k < 3 → length (get_or blank k []) ≡ 3
-    go zero h = refl
-    go (suc zero) h = refl
-    go (suc (suc zero)) h = refl
-    go (suc (suc (suc k))) h = absurd (omega arith)

@@ -1,45 +1,38 @@
--- What the code's enums and arrays say, in the words of meaning's definitions. Nothing here is a rule of its own.
-use Rattle.std.specs.Prelude.{ℕ, zero, suc, ◌≤◌, ◌<◌, ◌≡◌, List, [], ◌∷◌, Bool, false, length, get_or}
-use Rattle.meaning.specs.declared.Refusal.TheVariants.{Short}
+-- What the code's results and arrays say, in the words of meaning's definitions. Nothing here is a rule of its own.
+use Rattle.std.specs.Prelude.{ℕ, zero, suc, ◌≤◌, ◌<◌, ◌≡◌, List, [], ◌∷◌, Bool, false, length, get_or, Result, Ok, Err}
+use Rattle.meaning.specs.declared.Refusal.{Refusal}
 use Rattle.meaning.specs.Table.{Got, got, refused, Used, rank_of, daughter_of, dimension_of}
-use Rattle.table.specs.declared.cursor.Field.{Field}
-use Rattle.table.specs.declared.cursor.Field.TheVariants.{Read, Cut}
-use Rattle.table.specs.declared.cursor.SymbolField.{SymbolField}
-use Rattle.table.specs.declared.cursor.SymbolField.TheVariants.{Three, Fewer}
-use Rattle.table.specs.declared.cursor.Step.{Step}
-use Rattle.table.specs.declared.cursor.Step.TheVariants.{Next, Refused}
-use Rattle.table.specs.declared.Verdict.{Verdict}
-use Rattle.table.specs.declared.Verdict.TheVariants.{Valid, Invalid}
+use Rattle.table.specs.declared.cursor.Cursor.{Cursor}
 
 -- a field: its number with the place after it, or that the table's end cuts it
-abbrev pub field_of : Field → Got (ℕ × ℕ)
-field_of (Read n c) = got (n, c.at)
-field_of (Cut p) = refused (Short p)
+abbrev pub field_of : Result (ℕ × Cursor) Refusal → Got (ℕ × ℕ)
+field_of (Ok (n, c)) = got (n, c.at)
+field_of (Err r) = refused r
 
 -- a symbol: its kind and number with the place after it, or that the table's end cuts it
-abbrev pub symbol_of : SymbolField → Got (ℕ × ℕ × ℕ)
-symbol_of (Three kind n c) = got (kind, n, c.at)
-symbol_of (Fewer p) = refused (Short p)
+abbrev pub symbol_of : Result (ℕ × ℕ × Cursor) Refusal → Got (ℕ × ℕ × ℕ)
+symbol_of (Ok (kind, n, c)) = got (kind, n, c.at)
+symbol_of (Err r) = refused r
 
 -- a part that was checked: the place after it, or the refusal
-abbrev pub step_of : Step → Got ℕ
-step_of (Next c) = got c.at
-step_of (Refused r) = refused r
+abbrev pub step_of : Result Cursor Refusal → Got ℕ
+step_of (Ok c) = got c.at
+step_of (Err r) = refused r
 
 -- the same where more than the place is left behind
-abbrev pub step_with : {A : Type 0} → Step → A → Got (ℕ × A)
-step_with (Next c) a = got (c.at, a)
-step_with (Refused r) a = refused r
+abbrev pub step_with : {A : Type 0} → Result Cursor Refusal → A → Got (ℕ × A)
+step_with (Ok c) a = got (c.at, a)
+step_with (Err r) a = refused r
 
 -- what was checked as a whole: nothing to say, or the refusal
-abbrev pub verdict_of : Verdict → Got (Unit {0})
-verdict_of Valid = got tt
-verdict_of (Invalid r) = refused r
+abbrev pub verdict_of : Result (Unit {0}) Refusal → Got (Unit {0})
+verdict_of (Ok u) = got tt
+verdict_of (Err r) = refused r
 
 -- the same where something is left behind
-abbrev pub verdict_with : {A : Type 0} → Verdict → A → Got A
-verdict_with Valid a = got a
-verdict_with (Invalid r) a = refused r
+abbrev pub verdict_with : {A : Type 0} → Result (Unit {0}) Refusal → A → Got A
+verdict_with (Ok u) a = got a
+verdict_with (Err r) a = refused r
 
 -- the first n numbers of an array, the latest first: the function numbers before a rule
 unfoldable pub firsts : ℕ → List ℕ → List ℕ

@@ -8,137 +8,102 @@ use fields::{byte_at, cut, number_at, outside};
 use meaning::Refusal;
 
 // A place of the table, by value: each field takes it and hands back the next.
+// Kept: the table stands beside it; a cursor that held it would have each contract say that the next one's table is the same.
 #[derive(Clone, Copy)]
 pub(crate) struct Cursor {
     pub(crate) at: usize,
 }
 
-// A field's number, with the next cursor; or the table's end, which cuts it.
-#[derive(Clone, Copy)]
-pub(crate) enum Field {
-    Read(u16, Cursor),
-    Cut(usize),
-}
-
-// A symbol's kind and number, with the next cursor; or the table's end, which cuts it.
-#[derive(Clone, Copy)]
-pub(crate) enum SymbolField {
-    Three(u16, u16, Cursor),
-    Fewer(usize),
-}
-
-// The cursor after a part that was checked; or the refusal.
-#[derive(Clone, Copy)]
-pub(crate) enum Step {
-    Next(Cursor),
-    Refused(Refusal),
-}
-
 impl Cursor {
     // A field of one byte.
-    pub(crate) fn byte(self, table: &[u8]) -> Field
+    #[tactic(auto, unfolding(meaning::specs::Table::byte_field))]
+    pub(crate) fn byte(self, table: &[u8]) -> Result<(u16, Cursor), Refusal>
         ensures { field_of result ≡ spec.byte_field table.now self.at }
     {
-        let at = self.at;
-        if cut(table, at, 1) {
-            return Field::Cut(table.len());
+        if cut(table, self.at, 1) {
+            return Err(Refusal::Short(table.len()));
         }
-        let next = at + 1;
-        Field::Read(byte_at(table, at), Cursor { at: next })
+        Ok((byte_at(table, self.at), Cursor { at: self.at + 1 }))
     }
 
     // A field of two bytes, the low one first.
-    pub(crate) fn number(self, table: &[u8]) -> Field
+    #[tactic(auto, unfolding(meaning::specs::Table::number_field))]
+    pub(crate) fn number(self, table: &[u8]) -> Result<(u16, Cursor), Refusal>
         ensures { field_of result ≡ spec.number_field table.now self.at }
     {
-        let at = self.at;
-        if cut(table, at, 2) {
-            return Field::Cut(table.len());
+        if cut(table, self.at, 2) {
+            return Err(Refusal::Short(table.len()));
         }
-        let next = at + 2;
-        Field::Read(number_at(table, at), Cursor { at: next })
+        Ok((number_at(table, self.at), Cursor { at: self.at + 2 }))
     }
 
     // A symbol's three bytes: its kind and its number.
-    pub(crate) fn symbol_field(self, table: &[u8]) -> SymbolField
+    // Kept: the kind as the byte says it, since a refusal names the byte that is wrong.
+    #[tactic(auto, unfolding(meaning::specs::Table::symbol_field))]
+    pub(crate) fn symbol_field(self, table: &[u8]) -> Result<(u16, u16, Cursor), Refusal>
         ensures { symbol_of result ≡ spec.symbol_field table.now self.at }
     {
-        let at = self.at;
-        if cut(table, at, 3) {
-            return SymbolField::Fewer(table.len());
+        if cut(table, self.at, 3) {
+            return Err(Refusal::Short(table.len()));
         }
-        let second = at + 1;
-        let next = at + 3;
-        let kind = byte_at(table, at);
-        let n = number_at(table, second);
-        SymbolField::Three(kind, n, Cursor { at: next })
+        let kind = byte_at(table, self.at);
+        let n = number_at(table, self.at + 1);
+        Ok((kind, n, Cursor { at: self.at + 3 }))
     }
 
     // A field of one byte that lies within limits, or is refused for a reason.
-    fn limited(self, table: &[u8], low: u16, high: u16, why: Refusal) -> Step
+    #[tactic(auto, unfolding(meaning::specs::Table::limited))]
+    fn limited(self, table: &[u8], low: u16, high: u16, why: Refusal) -> Result<Cursor, Refusal>
         ensures { step_of result ≡ spec.limited table.now low high why self.at }
     {
-        match self.byte(table) {
-            Field::Cut(end) => Step::Refused(Refusal::Short(end)),
-            Field::Read(x, next) => {
-                if outside(low, high, x) {
-                    return Step::Refused(why);
-                }
-                Step::Next(next)
-            }
+        let (x, next) = self.byte(table)?;
+        if outside(low, high, x) {
+            return Err(why);
         }
+        Ok(next)
     }
 
     // The dimension of a category, 1 to 3.
-    fn dimension(self, table: &[u8]) -> Step
+    fn dimension(self, table: &[u8]) -> Result<Cursor, Refusal>
         ensures { step_of result ≡ spec.dimension table.now self.at }
     {
         self.limited(table, 1, 3, Refusal::Range(self.at))
     }
 
     // The dimensions of as many categories, one after another.
-    pub(crate) fn dimensions(self, table: &[u8], count: usize) -> Step
+    // Kept: this, categories, symbols and rows are loops of one line each; one method over a closure has a contract longer than they are.
+    #[tactic(auto, using(fields::proofs::Laws::turns))]
+    pub(crate) fn dimensions(self, table: &[u8], count: usize) -> Result<Cursor, Refusal>
         ensures { step_of result ≡ times count (spec.dimension table.now) self.at }
     {
         let mut c = self;
-        let mut left = count;
-        while left > 0 {
-            let s = c.dimension(table);
-            let Step::Next(next) = s else {
-                return s;
-            };
-            c = next;
-            left -= 1;
+        for _ in 0..count {
+            c = c.dimension(table)?;
         }
-        Step::Next(c)
+        Ok(c)
     }
 
     // The number of a category, 1 to K.
-    pub(crate) fn category(self, table: &[u8]) -> Step
+    pub(crate) fn category(self, table: &[u8]) -> Result<Cursor, Refusal>
         ensures { step_of result ≡ spec.category table.now self.at }
     {
         self.limited(table, 1, byte_at(table, 5), Refusal::Category(self.at))
     }
 
     // The categories of as many daughters, one after another.
-    pub(crate) fn categories(self, table: &[u8], count: usize) -> Step
+    #[tactic(auto, using(fields::proofs::Laws::turns))]
+    pub(crate) fn categories(self, table: &[u8], count: usize) -> Result<Cursor, Refusal>
         ensures { step_of result ≡ times count (spec.category table.now) self.at }
     {
         let mut c = self;
-        let mut left = count;
-        while left > 0 {
-            let s = c.category(table);
-            let Step::Next(next) = s else {
-                return s;
-            };
-            c = next;
-            left -= 1;
+        for _ in 0..count {
+            c = c.category(table)?;
         }
-        Step::Next(c)
+        Ok(c)
     }
 
     // A rule's rank, 0 to 3.
-    pub(crate) fn rank(self, table: &[u8]) -> Step
+    pub(crate) fn rank(self, table: &[u8]) -> Result<Cursor, Refusal>
         ensures { step_of result ≡ spec.rank table.now self.at }
     {
         self.limited(table, 0, 3, Refusal::Range(self.at))

@@ -2,102 +2,61 @@
 ghost use Rattle.std.specs.Prelude.{◌≡◌};
 ghost use Rattle.meaning.specs.Table as spec;
 ghost use Rattle.meaning.specs.Table.{times};
-ghost use Rattle.table.specs.Views.{step_with, used_of, Square, Small};
+ghost use Rattle.table.specs.Views.{step_with, used_of};
 
-use crate::Verdict;
-use crate::cursor::{Cursor, Field, Step, SymbolField};
-use crate::marks::part;
-use fields::size;
+use crate::cursor::Cursor;
+use crate::head::Head;
+use crate::marks::Marks;
 use meaning::Refusal;
 
 impl Cursor {
     // A symbol of the rule at a place: a word, or a constituent that its use marks.
-    fn symbol(self, table: &[u8], rule: usize, used: &mut [[bool; 3]; 3]) -> Step
-        requires small { Small table.now rule }
-        requires square { Square used.old }
-        ensures used_after { step_with result (used_of used.new) ≡ spec.symbol table.now rule (self.at, used_of used.old) }
-        ensures square_2 { Square used.new }
+    #[tactic(auto, using(crate::proofs::Known::read), unfolding(meaning::specs::Table::symbol, meaning::specs::Table::word))]
+    fn symbol(self, rule: Head, marks: &mut Marks) -> Result<Cursor, Refusal>
+        ensures { step_with result (used_of marks.new.used) ≡ spec.symbol rule.entry.table.now rule.entry.at (self.at, used_of marks.old.used) }
     {
-        let at = self.at;
-        match self.symbol_field(table) {
-            SymbolField::Fewer(end) => Step::Refused(Refusal::Short(end)),
-            SymbolField::Three(kind, n, next) => {
-                if kind == 0 {
-                    let second = at + 1;
-                    if n == 0 {
-                        return Step::Refused(Refusal::Symbol(second));
-                    }
-                    return Step::Next(next);
-                }
-                match part(table, rule, at, kind, n, used) {
-                    Verdict::Invalid(why) => Step::Refused(why),
-                    Verdict::Valid => Step::Next(next),
-                }
-            }
+        let (kind, n, next) = self.symbol_field(rule.table)?;
+        if kind != 0 {
+            rule.part(self.at, kind, n, marks)?;
+        } else if n == 0 {
+            return Err(Refusal::Symbol(self.at + 1));
         }
+        Ok(next)
     }
 
     // As many symbols, one after another.
-    fn symbols(self, table: &[u8], rule: usize, count: usize, used: &mut [[bool; 3]; 3]) -> Step
-        requires small { Small table.now rule }
-        requires square { Square used.old }
-        ensures used_after { step_with result (used_of used.new) ≡ times count (spec.symbol table.now rule) (self.at, used_of used.old) }
-        ensures square_2 { Square used.new }
+    #[tactic(auto, using(fields::proofs::Laws::turns))]
+    fn symbols(self, rule: Head, count: usize, marks: &mut Marks) -> Result<Cursor, Refusal>
+        ensures { step_with result (used_of marks.new.used) ≡ times count (spec.symbol rule.entry.table.now rule.entry.at) (self.at, used_of marks.old.used) }
     {
         let mut c = self;
-        let mut left = count;
-        while left > 0 {
-            let s = c.symbol(table, rule, used);
-            let Step::Next(next) = s else {
-                return s;
-            };
-            c = next;
-            left -= 1;
+        for _ in 0..count {
+            c = c.symbol(rule, marks)?;
         }
-        Step::Next(c)
+        Ok(c)
     }
 
     // A row: its length, 0 to 16, then its symbols.
-    fn row(self, table: &[u8], rule: usize, used: &mut [[bool; 3]; 3]) -> Step
-        requires small { Small table.now rule }
-        requires square { Square used.old }
-        ensures used_after { step_with result (used_of used.new) ≡ spec.row table.now rule (self.at, used_of used.old) }
-        ensures square_2 { Square used.new }
+    #[tactic(auto, unfolding(meaning::specs::Table::row))]
+    fn row(self, rule: Head, marks: &mut Marks) -> Result<Cursor, Refusal>
+        ensures { step_with result (used_of marks.new.used) ≡ spec.row rule.entry.table.now rule.entry.at (self.at, used_of marks.old.used) }
     {
-        match self.byte(table) {
-            Field::Cut(end) => Step::Refused(Refusal::Short(end)),
-            Field::Read(n, next) => {
-                if 16 < n {
-                    return Step::Refused(Refusal::Range(self.at));
-                }
-                next.symbols(table, rule, size(n), used)
-            }
+        let (n, next) = self.byte(rule.table)?;
+        if 16 < n {
+            return Err(Refusal::Range(self.at));
         }
+        next.symbols(rule, usize::from(n), marks)
     }
 
     // As many rows, one after another.
-    pub(crate) fn rows(
-        self,
-        table: &[u8],
-        rule: usize,
-        count: usize,
-        used: &mut [[bool; 3]; 3],
-    ) -> Step
-        requires small { Small table.now rule }
-        requires square { Square used.old }
-        ensures used_after { step_with result (used_of used.new) ≡ times count (spec.row table.now rule) (self.at, used_of used.old) }
-        ensures square_2 { Square used.new }
+    #[tactic(auto, using(fields::proofs::Laws::turns))]
+    pub(crate) fn rows(self, rule: Head, count: usize, marks: &mut Marks) -> Result<Cursor, Refusal>
+        ensures { step_with result (used_of marks.new.used) ≡ times count (spec.row rule.entry.table.now rule.entry.at) (self.at, used_of marks.old.used) }
     {
         let mut c = self;
-        let mut left = count;
-        while left > 0 {
-            let s = c.row(table, rule, used);
-            let Step::Next(next) = s else {
-                return s;
-            };
-            c = next;
-            left -= 1;
+        for _ in 0..count {
+            c = c.row(rule, marks)?;
         }
-        Step::Next(c)
+        Ok(c)
     }
 }

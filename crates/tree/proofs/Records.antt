@@ -5,9 +5,10 @@ use mathlib.Core.Option.{some}
 use mathlib.Core.List.Memᴰ.{head as here}
 use mathlib.Core.List.Memᴰ.{tail as there}
 use mathlib.Core.List.{List, [], ◌∷◌, map, cons≢nil, Memᴰ as Mem}
-use Prim.Native.Nat.{ℕ, zero, suc, ◌+◌, ◌*◌, ◌/◌, ◌≤◌, ◌<◌}
+use Prim.Native.Nat.{ℕ, zero, suc, min, ◌+◌, ◌-◌, ◌*◌, ◌/◌, ◌≤◌, ◌<◌}
 use native.Mathlib.Omega.{arith}
-use lib.ListN.{length, get_or, get_elem?, length-take}
+use lib.ListN.{length, get_or, get_elem?, take, drop, length-take, length-drop}
+use Rattle.std.proofs.lemmas.List.{get_or-drop}
 use lib.Seq.{slice, length-slice, get_or-take}
 use Rattle.meaning.specs.Table.{got, check_table}
 use Rattle.meaning.specs.Decode.{grammar_of}
@@ -105,3 +106,21 @@ module _ (t ws c : List ℕ) (count : ℕ) (accepted : check_table t ≡ got tt)
     below = λ i k h l. (daughter i k h l).0;
     lower = λ i k h l. (daughter i k h l).1;
   }
+
+-- the daughters' places of a record, as a part of the slice
+module _ (t c : List ℕ) (i n : ℕ) (ranked : n ≡ rank t (function_at c i)) where
+  abbrev pub places : List ℕ
+  places = take (12 * i + 9 + n - (12 * i + 9)) (drop (12 * i + 9) c)
+
+  places-size : length places ≡ min n (length c - (12 * i + 9))
+  places-size = simp (length-take, length-drop) (omega arith)
+
+  -- place k of them is that of daughter k
+  pub daughter-there : {k x : ℕ} → k < length places → x ≡ get_or places k 0 → (k < rank t (function_at c i)) × (x ≡ place_at c i k)
+  daughter-there {k} h e =
+      let l : k < n = omega (arith, places-size) in
+      (rw (← ranked) l, e ∙ get_or-take (12 * i + 9 + n - (12 * i + 9)) (drop (12 * i + 9) c) k 0 (omega arith) ∙ get_or-drop (12 * i + 9) c k 0)
+
+  -- past the last place there is no daughter
+  pub daughters-end : {k count : ℕ} → length places ≤ k → i < count → 12 * count ≤ length c → n ≤ 3 → rank t (function_at c i) ≤ k
+  daughters-end {k} h l s m = let z : n ≤ k = omega (arith, places-size) in rw (← ranked) z

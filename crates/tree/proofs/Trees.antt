@@ -4,7 +4,7 @@ use mathlib.Core.Path.{◌≡◌, refl, sym, ap, ◌∙◌}
 use mathlib.Core.List.{List, [], ◌∷◌, ◌++◌, append_assoc, append-nil}
 use Prim.Native.Nat.{ℕ, zero, suc, ◌+◌, ◌-◌, ◌≤◌, ◌<◌}
 use native.Mathlib.Omega.{arith}
-use lib.ListN.{length, get_or, take}
+use lib.ListN.{length, get_or, take, drop, take-append-drop}
 use native.Mathlib.Numerals.{add-one}
 use lib.Seq.{take-suc, take_all}
 use Rattle.meaning.specs.Decode.{grammar_of}
@@ -27,12 +27,15 @@ trees-same : (n m : ℕ) (C : List (Entry Item)) (ps : List ℕ) → ((k : ℕ) 
 trees-same n m C [] h = refl
 trees-same n m C (p ∷ ps) h = rw (h 0 (omega arith), trees-same n m C ps (λ k l. h (suc k) (omega arith)))
 
--- the places of a record's daughters, and the trees of the first k of them
+-- the places of a record's daughters, the trees of the first k of them, and of the others
 abbrev places_at : List ℕ → List ℕ → ℕ → List ℕ
 places_at t c i = (entry_at (grammar_of t) c i).places
 
 abbrev pub first_trees : List ℕ → List ℕ → ℕ → ℕ → ℕ → List ℕ
 first_trees t c count i k = trees (height_at c i - 1) (lent (grammar_of t) c count) (take k (places_at t c i))
+
+abbrev pub last_trees : List ℕ → List ℕ → ℕ → ℕ → ℕ → List ℕ
+last_trees t c count i k = trees (height_at c i - 1) (lent (grammar_of t) c count) (drop k (places_at t c i))
 
 module _ (t c : List ℕ) (count : ℕ) (falls : Falling t c count) where
   abbrev C : List (Entry Item)
@@ -65,6 +68,15 @@ module _ (t c : List ℕ) (count : ℕ) (falls : Falling t c count) where
       let n : (stated_at c i).height ≡ suc (height_at c i - 1) = omega (arith, stated-height c i, falls.high i h) in
       let a : take k (places_at t c i) ≡ places_at t c i = take_all k (places_at t c i) (omega (arith, length-places i h)) in
       ap (λ (m : ℕ). told m C i) n ∙ told_at (height_at c i - 1) i h ∙ ap (λ (ps : List ℕ). function_at c i ∷ trees (height_at c i - 1) C ps) (sym a)
+
+  -- the trees of the first k daughters, and of the others
+  pub nodes-rest : (i k : ℕ) → i < count → nodes (grammar_of t) c count i ≡ function_at c i ∷ (first_trees t c count i k ++ last_trees t c count i k)
+  unfolding nodes
+  nodes-rest i k h =
+      let n : (stated_at c i).height ≡ suc (height_at c i - 1) = omega (arith, stated-height c i, falls.high i h) in
+      ap (λ (m : ℕ). told m C i) n ∙ told_at (height_at c i - 1) i h
+      ∙ ap (λ (ps : List ℕ). function_at c i ∷ trees (height_at c i - 1) C ps) (sym (take-append-drop k (places_at t c i)))
+      ∙ ap (λ (l : List ℕ). function_at c i ∷ l) (trees-append (height_at c i - 1) C (take k (places_at t c i)) (drop k (places_at t c i)))
 
   pub nodes-more : (i k : ℕ) → i < count → k < rank t (function_at c i) → first_trees t c count i (k + 1) ≡ first_trees t c count i k ++ nodes (grammar_of t) c count (place_at c i k)
   unfolding nodes

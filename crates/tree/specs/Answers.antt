@@ -1,34 +1,31 @@
 -- The tree writer's answer as numbers: document 01, 'Numbers handed back'; and what the code finds once table and words are accepted.
-use Rattle.std.specs.Prelude.{ℕ, ◌≤◌, ◌<◌, ◌≡◌, List, ◌++◌, length, drop}
+use Rattle.std.specs.Prelude.{ℕ, ◌≤◌, ◌<◌, ◌≡◌, List, ◌++◌, length, drop, Result, Ok, Err}
 use Rattle.meaning.specs.Refusals as refusal
 use Rattle.meaning.specs.Decode.{grammar_of}
 use Rattle.meaning.specs.TreeWriting.{TooMany, Passes, FirstBad, nodes, tree_room}
-use Rattle.tree.specs.declared.answer.TreeAnswer.{TreeAnswer}
-use Rattle.tree.specs.declared.answer.TreeAnswer.TheVariants.{Refused, Chart, Place, TreeRoom, Nodes}
+use Rattle.tree.specs.declared.answer.TreeRefusal.{TreeRefusal}
+use Rattle.tree.specs.declared.answer.TreeRefusal.TheVariants.{Input, Chart, Place, TreeRoom}
 
 -- the column 'Code': a refusal of the table or the words has its own; '17 Chart'; '18 Place'; '19 Tree room'; 'code 0'
-abbrev pub code_of : TreeAnswer → ℕ
-code_of (Refused r) = refusal.code_of r
-code_of (Chart i) = 17
-code_of (Place root) = 18
-code_of (TreeRoom room) = 19
-code_of (Nodes n) = 0
+abbrev pub code_of : Result ℕ TreeRefusal → ℕ
+code_of (Ok n) = 0
+code_of (Err (Input r)) = refusal.code_of r
+code_of (Err (Chart i)) = 17
+code_of (Err (Place root)) = 18
+code_of (Err (TreeRoom room)) = 19
 
 -- the column 'Place': 'first bad record, or 0'; 'the root'; 'the room'; 'place 0'
-abbrev pub place_of : TreeAnswer → ℕ
-place_of (Refused r) = refusal.place_of r
-place_of (Chart i) = i
-place_of (Place root) = root
-place_of (TreeRoom room) = room
-place_of (Nodes n) = 0
+abbrev pub place_of : Result ℕ TreeRefusal → ℕ
+place_of (Ok n) = 0
+place_of (Err (Input r)) = refusal.place_of r
+place_of (Err (Chart i)) = i
+place_of (Err (Place root)) = root
+place_of (Err (TreeRoom room)) = room
 
 -- 'The tree writer answers likewise with its nodes.' 'A refusal has count 0.'
-abbrev pub count_of : TreeAnswer → ℕ
-count_of (Refused r) = 0
-count_of (Chart i) = 0
-count_of (Place root) = 0
-count_of (TreeRoom room) = 0
-count_of (Nodes n) = n
+abbrev pub count_of : Result ℕ TreeRefusal → ℕ
+count_of (Ok n) = n
+count_of (Err r) = 0
 
 -- the numbers are written, or there is no room for them
 pub data Fitted (ns : List ℕ) (room : ℕ) (before : List ℕ) : ℕ → ℕ → ℕ → List ℕ → Type 0 where

@@ -1,6 +1,6 @@
 -- What a chart that passed has for the recursion from a record to its daughters, and what it is to have written a list from a place on.
 -- Nothing here is a rule of its own.
-use Rattle.std.specs.Prelude.{ℕ, ◌+◌, ◌*◌, ◌≤◌, ◌<◌, ◌≡◌, length, get_or, take, drop}
+use Rattle.std.specs.Prelude.{ℕ, ◌+◌, ◌*◌, ◌≤◌, ◌<◌, ◌≡◌, length, get_or, take, drop, Option, Some, None}
 use mathlib.Core.List.{List, [], ◌++◌, foldr}
 use Rattle.meaning.specs.Table.{got, check_table}
 use Rattle.meaning.specs.Decode.{grammar_of}
@@ -35,9 +35,9 @@ pub record Falling (t c : List ℕ) (count : ℕ) : Type 0 where
 abbrev pub trees : ℕ → List (Entry Item) → List ℕ → List ℕ
 trees n C ps = foldr (λ q l. told n C q ++ l) [] ps
 
--- what a slice is, and what is answered, after the numbers ns were to be written from a place on: they are there, and r is the place
--- after them; or there was no room for them, and r is past the slice's end
-pub data Wrote (ns before : List ℕ) (pos : ℕ) (after : List ℕ) (r : ℕ) : Type 0 where
-  fitted : pos + length ns ≤ length before → r ≡ pos + length ns → after ≡ take pos before ++ ns ++ drop (pos + length ns) before
+-- what a slice is, and what is answered, after the numbers ns were to be written from a place on: they are there, and the answer is the
+-- place after them; or there was no room for them, and nothing is answered
+pub data Wrote (ns before : List ℕ) (pos : ℕ) (after : List ℕ) (r : Option ℕ) : Type 0 where
+  fitted : pos + length ns ≤ length before → r ≡ Some (pos + length ns) → after ≡ take pos before ++ ns ++ drop (pos + length ns) before
       → Wrote ns before pos after r
-  over : length before < pos + length ns → r ≡ length before + 1 → length after ≡ length before → Wrote ns before pos after r
+  over : length before < pos + length ns → r ≡ None → length after ≡ length before → Wrote ns before pos after r

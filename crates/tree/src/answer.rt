@@ -1,13 +1,36 @@
-// The tree writer's answer.
+// Why the tree writer refuses.
+ghost use Rattle.std.specs.Prelude.{◌≡◌};
+ghost use Rattle.tree.specs.Faults.{chart_place};
+ghost use Rattle.tree.specs.declared.answer.TreeRefusal.TheVariants.{Input, Chart};
+
+use lent::ChartFault;
 use meaning::Refusal;
 
 // The refusal of the table or the words; the first bad record of the chart, or 0 where it has too many; the root that is not there; the
-// room that does not hold the nodes; how many nodes were written.
-#[derive(Clone, Copy)]
-pub enum TreeAnswer {
-    Refused(Refusal),
+// room that does not hold the nodes.
+#[derive(Clone, Copy, Debug, PartialEq, Eq)]
+pub enum TreeRefusal {
+    Input(Refusal),
     Chart(usize),
     Place(usize),
     TreeRoom(usize),
-    Nodes(usize),
+}
+
+impl From<Refusal> for TreeRefusal {
+    ghost from_gives = { λ why r. r ≡ Input why };
+
+    fn from(why: Refusal) -> TreeRefusal {
+        TreeRefusal::Input(why)
+    }
+}
+
+impl From<ChartFault> for TreeRefusal {
+    ghost from_gives = { λ fault r. r ≡ Chart (chart_place fault) };
+
+    fn from(fault: ChartFault) -> TreeRefusal {
+        match fault {
+            ChartFault::Many => TreeRefusal::Chart(0),
+            ChartFault::Bad(i) => TreeRefusal::Chart(i),
+        }
+    }
 }

@@ -2,12 +2,11 @@
 // was written by hand from the documents.
 #![tactic(auto)]
 
+ghost use Rattle.std.specs.Prelude.{◌≤◌};
 ghost use Rattle.programs.specs.Counts.{IsPrefixLen};
 
 use board::{mcg_read, mcg_sentence};
-use programs::{
-    empty_chart, height_at, print, print_answer, print_numbers, print_records, read_file, say,
-};
+use programs::{empty_chart, height_at, list, print, print_answer, print_numbers, read_file, say};
 use std::io;
 use std::rt::Files;
 
@@ -24,28 +23,15 @@ fn reading(rt: &impl Print, table: &[u8], words: &[u8]) -> io::Result<()> {
     Ok(())
 }
 
-// The same with the records of the chart.
-fn chart_of(rt: &impl Print, table: &[u8], words: &[u8]) -> io::Result<()> {
-    let mut chart = empty_chart();
-    let mut answer = [0u64; 3];
-    mcg_read(table, words, 0, &mut chart, &mut answer);
-    print_answer(rt, &answer)?;
-    print_records(rt, &chart, answer[2])
-}
-
-// Writes a word's low byte at each word of a sentence that is all 0.
-fn repeat(word: u8, words: &mut [u8]) {
-    let mut at = 0;
-    while at < words.len() {
-        words[at] = word;
-        at += 2;
+// Reads a sentence of one word, at most 63 times.
+fn repeated(rt: &impl Print, table: &[u8], word: u8, count: usize) -> io::Result<()>
+    requires { count ≤ 63 }
+{
+    let mut words = [0u8; 126];
+    for low in words.iter_mut().step_by(2) {
+        *low = word;
     }
-}
-
-// Reads a sentence of one word, as long as the slice.
-fn repeated(rt: &impl Print, table: &[u8], word: u8, words: &mut [u8]) -> io::Result<()> {
-    repeat(word, words);
-    reading(rt, table, words)
+    reading(rt, table, &words[..2 * count])
 }
 
 // Reads a table with one byte changed.
@@ -64,9 +50,9 @@ fn amb(rt: &(impl Files + Print)) -> io::Result<()> {
     let mut table = [0u8; 4096];
     let n = read_file(rt, b"amb.mcg", &mut table);
     say(rt, b"AMB, 62 nines\n")?;
-    repeated(rt, &table[..n], 9, &mut [0u8; 124])?;
+    repeated(rt, &table[..n], 9, 62)?;
     say(rt, b"AMB, 63 nines\n")?;
-    repeated(rt, &table[..n], 9, &mut [0u8; 126])
+    repeated(rt, &table[..n], 9, 63)
 }
 
 // Document 01, 'Worked tables': COPY with byte 21 made 1.
@@ -103,34 +89,18 @@ fn figure(rt: &(impl Files + Print)) -> io::Result<()> {
     let mut table = [0u8; 4096];
     let n = read_file(rt, b"figure-3-1.mcg", &mut table);
     say(rt, b"figure 3.2, abcd\n")?;
-    chart_of(rt, &table[..n], &[1, 0, 2, 0, 3, 0, 4, 0])
+    list(rt, &table[..n], &[1, 0, 2, 0, 3, 0, 4, 0])
 }
 
-// Document 004, table 4: as many items as its column of nodes has, for 2 to 7 words.
-fn short_strings(rt: &impl Print, table: &[u8]) -> io::Result<()> {
-    repeated(rt, table, 1, &mut [0u8; 4])?;
-    repeated(rt, table, 1, &mut [0u8; 6])?;
-    repeated(rt, table, 1, &mut [0u8; 8])?;
-    repeated(rt, table, 1, &mut [0u8; 10])?;
-    repeated(rt, table, 1, &mut [0u8; 12])?;
-    repeated(rt, table, 1, &mut [0u8; 14])
-}
-
-// The same for 8, 9, 10, 20 and 30 words.
-fn long_strings(rt: &impl Print, table: &[u8]) -> io::Result<()> {
-    repeated(rt, table, 1, &mut [0u8; 16])?;
-    repeated(rt, table, 1, &mut [0u8; 18])?;
-    repeated(rt, table, 1, &mut [0u8; 20])?;
-    repeated(rt, table, 1, &mut [0u8; 40])?;
-    repeated(rt, table, 1, &mut [0u8; 60])
-}
-
+// Document 004, table 4: as many items as its column of nodes has, for so many words.
 fn gxx(rt: &(impl Files + Print)) -> io::Result<()> {
     let mut table = [0u8; 4096];
     let n = read_file(rt, b"gxx.mcg", &mut table);
     say(rt, b"Gxx, 2, 3, 4, 5, 6, 7, 8, 9, 10, 20, 30 words\n")?;
-    short_strings(rt, &table[..n])?;
-    long_strings(rt, &table[..n])
+    for count in [2, 3, 4, 5, 6, 7, 8, 9, 10, 20, 30] {
+        repeated(rt, &table[..n], 1, count)?;
+    }
+    Ok(())
 }
 
 fn main(rt: HostRuntime) -> io::Result<()> {

@@ -1,25 +1,32 @@
-use mathlib.Core.Path.{ap, ◌∙◌}
+use mathlib.Core.Path.{refl, ap, ◌∙◌}
 use Rattle.meaning.specs.Table.{number}
-use Rattle.chosen.proofs.Picking.{code-small, order-few, walking, not-nowhere, found_below, picked}
+use Rattle.chosen.proofs.Picking.{code-small, order-few, walking, somewhere, found_below, found_small, picked}
 use native.Mathlib.Omega.{arith}
 use Rattle.chosen.proofs.choice_of.Goals as goal
 
 pub unpack-requires : goal.unpack-requires
 unpack-requires c = code-small c.requires
 
-pub walk-found-requires : goal.walk-found-requires
-walk-found-requires c = walking c.requires _ c.unpack.ensures
+pub walk-requires : goal.walk-requires
+walk-requires c = walking c.requires _ c.unpack.ensures
 
-pub returns-in_default : goal.returns-in_default
-returns-in_default c = absurd (not-nowhere c.requires c.unpack.ensures c.walk-found.ensures c.in_default.is)
+pub unwrap-way-requires : goal.unwrap-way-requires
+unwrap-way-requires c = somewhere c.requires c.unpack.ensures c.walk.ensures
 
-pub offset_bounds-order-f : goal.offset_bounds-order-f
-offset_bounds-order-f c = omega (arith, found_below c.requires c.unpack.ensures c.walk-found.ensures c.in-At.is, order-few c.requires)
+pub offset_bounds-order-way : goal.offset_bounds-order-way
+offset_bounds-order-way c = omega (arith, found_below c.requires c.unpack.ensures (rw c.unwrap-way.ensures at c.walk.ensures), order-few c.requires)
 
-pub bounds-order-f : goal.bounds-order-f
-bounds-order-f c = omega (arith, found_below c.requires c.unpack.ensures c.walk-found.ensures c.in-At.is, order-few c.requires)
+pub bounds-order-way : goal.bounds-order-way
+bounds-order-way c = found_below c.requires c.unpack.ensures (rw c.unwrap-way.ensures at c.walk.ensures)
+
+pub overflow_cast-result : goal.overflow_cast-result
+overflow_cast-result c = omega (arith, (found_small c.requires c.unpack.ensures (rw c.unwrap-way.ensures at c.walk.ensures)).0)
+
+pub overflow_cast-result-2 : goal.overflow_cast-result-2
+overflow_cast-result-2 c = omega (arith, (found_small c.requires c.unpack.ensures (rw c.unwrap-way.ensures at c.walk.ensures)).1)
+
+pub overflow_cast-result-3 : goal.overflow_cast-result-3
+overflow_cast-result-3 c = omega (arith, (found_small c.requires c.unpack.ensures (rw c.unwrap-way.ensures at c.walk.ensures)).2)
 
 pub returns : goal.returns
-returns c = let number_is = c.number_at.ensures ∙ ap (number _) c.size-rule.ensures in
-    picked c.requires c.unpack.ensures c.walk-found.ensures c.in-At.is _ number_is
-    c.short.ensures c.short-2.ensures c.short-3.ensures
+returns c = picked c.requires c.unpack.ensures (rw c.unwrap-way.ensures at c.walk.ensures) _ (c.number_at.ensures ∙ ap (number _) c.from.ensures) refl refl refl

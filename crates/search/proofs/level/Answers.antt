@@ -1,52 +1,42 @@
 -- `search::level` meets its contract: rule by rule, where a rule that is like one before it is passed over.
-use mathlib.Core.Path.{◌∙◌}
 use Rattle.phrase.proofs.Fit.{said-yes}
 use Rattle.search.proofs.Filling.{goes_on}
-use Rattle.search.proofs.Ruling.{ready-none, ready_at, trying-at, tried-at, rule-ends, next_place, first-place, rules-begin, rules-same, rules-end, rules-skip, rules-turn, rules-stop}
-use Rattle.search.proofs.Likeness.{rule-here, like-old}
+use Rattle.search.proofs.Ruling.{ready-none, codes-fine, tried-at, rule-ends, next_place, first-place, rules-begin, rules-same, rules-end, rules-skip, rules-turn, rules-stop}
+use Rattle.search.proofs.Likeness.{like-old}
 use native.Mathlib.Omega.{arith}
 use Rattle.search.proofs.level.Goals as goal
-use Rattle.search.proofs.level.Goals.{then-not-has_shape+else-fresh-m, else-not-has_shape}
-
-pub overflow_add-next : goal.overflow_add-next
-overflow_add-next c = omega (arith, c.requires.low)
+use Rattle.search.proofs.level.Goals.{then-not-has_shape+in_ok-m, else-not-has_shape}
 
 pub loop-i-init : goal.loop-i-init
-loop-i-init c = (omega arith, first-place _ _ c.first_rule-rule.ensures, rules-begin (ready-none _ c.requires))
+loop-i-init c = (first-place _ _ c.first_rule-at.ensures, rules-begin (ready-none _))
 
-pub has_shape-requires : goal.has_shape-requires
-has_shape-requires c = (rule-here _ c.loop-i.invariant.1 c.requires.accepted (omega (arith, c.rule_count-count.ensures)), omega (arith, c.rule_count-count.ensures))
+pub invariant_of-task-clause-codes : goal.invariant_of-task-clause-codes
+invariant_of-task-clause-codes c = codes-fine c.requires c.args.table.accepted
 
-pub combine-m-requires : goal.combine-m-requires
-combine-m-requires c = record {
-  ready = ready_at _ _ (omega (arith, c.requires.low)) (goes_on (ready-none _ c.requires) c.loop-i.invariant.2.filled c.loop-i.invariant.2.fit c.loop-i.invariant.2.long);
-  trying = trying-at c.requires _ _ _ (omega (arith, c.rule_count-count.ensures)) c.loop-i.invariant.1 (omega (arith, c.requires.low));
-}
+pub combine-requires : goal.combine-requires
+combine-requires c = record { ready = goes_on (ready-none _) c.loop-i.invariant.1.filled c.loop-i.invariant.1.long }
 
-pub shape_of-fresh-then-fresh-m : goal.shape_of-fresh-then-fresh-m
-shape_of-fresh-then-fresh-m c = c.combine-m.auto.fresh ∙ c.loop-i.invariant.2.long
+pub returns-in_err-m : goal.returns-in_err-m
+returns-in_err-m c =
+    let stops = rw (c.in_err-m.was, c.blank_item.ensures) at c.combine.ensures in
+    rw c.from_residual.ensures (rules-stop _ c.loop-i.invariant.1 (tried-at _ _ _ _ _ _ c.loop-i.invariant.0 stops) c.args.table.accepted (omega (arith, c.rule_count-i-end.ensures)))
 
-pub returns-then-fresh-m : goal.returns-then-fresh-m
-returns-then-fresh-m c = rules-stop _ c.loop-i.invariant.2 (tried-at _ _ _ _ _ _ _ c.loop-i.invariant.1 (omega (arith, c.requires.low)) c.combine-m.ensures)
-    c.requires.accepted (omega (arith, c.rule_count-count.ensures)) (omega (arith, c.combine-m.auto.fresh, c.loop-i.invariant.2.long))
-
-pub rule_end-rule-requires : goal.rule_end-rule-requires
-rule_end-rule-requires c = rule-ends c.requires _ _ (omega (arith, c.rule_count-count.ensures)) c.loop-i.invariant.1
+pub rule_end-at-requires : goal.rule_end-at-requires
+rule_end-at-requires c = rule-ends c.requires c.args.table.accepted _ _ (omega (arith, c.rule_count-i-end.ensures)) c.loop-i.invariant.0
 
 pub loop-i-preserved : goal.loop-i-preserved
 loop-i-preserved c = (
-  omega arith,
-  next_place _ _ _ _ c.loop-i.invariant.1 c.rule_end-rule.ensures,
+  next_place _ _ _ _ c.loop-i.invariant.0 c.rule_end-at.ensures,
   elim c.if-not-has_shape.branch [
-    | then-not-has_shape+else-fresh-m w ↦
-        rules-same w.fresh-is w.m-is (rules-turn _ c.loop-i.invariant.2 (tried-at _ _ _ _ _ _ _ c.loop-i.invariant.1 (omega (arith, c.requires.low)) w.combine-m.ensures) w.combine-m.auto.fresh (omega (arith, w.if-fresh-m.false)))
+    | then-not-has_shape+in_ok-m w ↦
+        let goes = rw (w.in_ok-m.was, w.blank_item.ensures) at w.combine.ensures in
+        rules-same w.fresh-is w.m-is (rules-turn _ c.loop-i.invariant.1 (tried-at _ _ _ _ _ _ c.loop-i.invariant.0 goes) w.combine.auto.fresh)
     | else-not-has_shape w ↦
-        rules-same w.fresh-is w.m-is (rules-skip _ c.loop-i.invariant.2 (like-old _ _ _ _ _ c.requires.accepted (omega (arith, c.rule_count-count.ensures)) c.loop-i.invariant.1 (said-yes c.has_shape.ensures w.if-not-has_shape.false)))
+        let like = said-yes c.has_shape.ensures w.if-not-has_shape.false in
+        let old = like-old _ _ _ _ _ c.args.table.accepted (omega (arith, c.rule_count-i-end.ensures)) c.loop-i.invariant.0 like in
+        rules-same w.fresh-is w.m-is (rules-skip _ c.loop-i.invariant.1 old)
   ],
 )
 
-pub shape_of-fresh : goal.shape_of-fresh
-shape_of-fresh c = c.loop-i.invariant.2.long
-
 pub returns : goal.returns
-returns c = rules-end _ c.loop-i.invariant.2 c.requires.accepted (omega (arith, c.rule_count-count.ensures, c.loop-i.invariant.0))
+returns c = rules-end _ c.loop-i.invariant.1 c.args.table.accepted (omega (arith, c.rule_count-i-end.ensures))

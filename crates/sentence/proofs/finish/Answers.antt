@@ -11,7 +11,7 @@ returns-then-text-words c = cramped {n = c.say-words.result} (omega (arith, c.sa
 
 pub returns : goal.returns
 returns c =
-    let a = c.args in
+    let n = c.args.nodes in
     let h = c.if-text-words.false in
-    let w = finish-text (whole a.table.now a.nodes.now) a.text.now _ _ c.say-words.ensures.next h c.say.ensures.text in
+    let w = finish-text (whole n.table.now n.places.now) c.args.text.now _ _ c.say-words.ensures.next h c.say.ensures.text in
     written {n = c.say-words.result} (omega (arith, c.say-words.ensures.next)) h w

@@ -1,11 +1,44 @@
--- `tree::tree` meets its contract: a refusal of the table or the words is the answer, or else they are accepted.
-use Rattle.meaning.specs.TreeWriting.{bad_input}
-use Rattle.table.specs.Views.{verdict_of}
-use Rattle.fields.proofs.Laws.{knew}
+-- `tree::tree` meets its contract: the first refusal in the checks' order is the answer, or else the root's tree is written.
+use mathlib.Core.Path.{◌≡◌, refl, sym}
+use lib.Seq.{length-take-le}
+use Rattle.meaning.specs.Decode.{words_of}
+use Rattle.meaning.proofs.Determined.{words-few, table-accepted}
+use Rattle.input.proofs.Sentence.{words-read}
+use Rattle.tree.proofs.Judging.{input-refused, passes, chart-refused, tree-written}
+use Rattle.tree.proofs.Records.{falling}
 use Rattle.tree.proofs.tree.Goals as goal
 
-pub judge_accepted-requires : goal.judge_accepted-requires
-judge_accepted-requires c = knew verdict_of c.check_input-checked.ensures c.in-Valid.is
+pub returns-in_err-check_input : goal.returns-in_err-check_input
+returns-in_err-check_input c =
+    let a = c.args in
+    input-refused a.table.now a.words.now a.chart.now a.count a.root a.out.now c.from_residual.result c.in_err-check_input.ensures c.from_residual.ensures.1
 
-pub returns-in-Invalid : goal.returns-in-Invalid
-returns-in-Invalid c = bad_input (knew verdict_of c.check_input-checked.ensures c.in-Invalid.is)
+pub slice_bounds-space-end : goal.slice_bounds-space-end
+slice_bounds-space-end c = words-few c.args.table.now c.args.words.now (sym c.in_ok-check_input.ensures)
+
+pub slice_bounds-numbers-end : goal.slice_bounds-numbers-end
+slice_bounds-numbers-end c = sym (length-take-le _ _ (words-few c.args.table.now c.args.words.now (sym c.in_ok-check_input.ensures)))
+
+pub invariant_of-table : goal.invariant_of-table
+invariant_of-table c = record { accepted = table-accepted c.args.table.now c.args.words.now (sym c.in_ok-check_input.ensures) }
+
+pub returns-in_err-check_chart : goal.returns-in_err-check_chart
+returns-in_err-check_chart c =
+    let a = c.args in
+    let e = sym c.in_ok-check_input.ensures in
+    let q : c.read_words.new.words ≡ words_of a.words.now = words-read a.table.now a.words.now _ e refl c.read_words.ensures in
+    chart-refused a.table.now a.words.now a.chart.now a.count a.root a.out.now e c.from_residual-in_err-check_chart.result
+    (rw q at c.in_err-check_chart.ensures) c.from_residual-in_err-check_chart.ensures.1
+
+pub invariant_of-chart : goal.invariant_of-chart
+invariant_of-chart c =
+    let a = c.args in
+    let e = sym c.in_ok-check_input.ensures in
+    record { falling = falling a.table.now c.read_words.new.words a.chart.now a.count (table-accepted a.table.now a.words.now e) (passes c.in_ok-check_chart.ensures) }
+
+pub returns : goal.returns
+returns c =
+    let a = c.args in
+    let e = sym c.in_ok-check_input.ensures in
+    let q : c.read_words.new.words ≡ words_of a.words.now = words-read a.table.now a.words.now _ e refl c.read_words.ensures in
+    tree-written a.table.now a.words.now a.chart.now a.count a.root a.out.now e (rw q at c.in_ok-check_chart.ensures) c.write_root.ensures

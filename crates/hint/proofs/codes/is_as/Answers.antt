@@ -1,14 +1,15 @@
--- `hint::codes::is_as` meets its contract: the two ways to be as asked.
-use mathlib.Core.Logic.{inl, inr}
+-- `hint::codes::is_as` meets its contract: one answer for each place.
+use Rattle.std.proofs.Common.{eq-eqb}
+use Rattle.std.proofs.lemmas.Bool.{eqb-true}
 use Rattle.phrase.specs.Phrase.{holds, fails}
-use Rattle.hint.proofs.Segments.{as-not}
+use Rattle.phrase.proofs.Fit.{decided}
 use Rattle.hint.proofs.codes.is_as.Goals as goal
 
-pub returns-then-asked-eq-ANYWHERE : goal.returns-then-asked-eq-ANYWHERE
-returns-then-asked-eq-ANYWHERE c = holds (inl c.if-asked-eq-ANYWHERE.true)
+pub returns-in-Any : goal.returns-in-Any
+returns-in-Any c = rw c.in-Any.is (holds tt)
 
-pub returns-then-asked-n : goal.returns-then-asked-n
-returns-then-asked-n c = holds (inr c.if-asked-n.true)
+pub returns-in-At : goal.returns-in-At
+returns-in-At c = rw c.in-At.is (decided _ (eq-eqb _ _) (eqb-true _ _))
 
-pub returns : goal.returns
-returns c = fails (as-not c.if-asked-eq-ANYWHERE.false c.if-asked-n.false)
+pub returns-in-Nowhere : goal.returns-in-Nowhere
+returns-in-Nowhere c = rw c.in-Nowhere.is (fails (λ a. a))

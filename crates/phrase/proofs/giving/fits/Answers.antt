@@ -1,38 +1,34 @@
 -- `phrase::giving::fits` meets its contract: an item is given where its category, its daughters' kinds and its three ranges are.
-use mathlib.Core.Path.{sym, ◌∙◌}
-use native.Mathlib.Omega.{arith}
-use Rattle.phrase.specs.Phrase.{holds, fails}
-use Rattle.phrase.proofs.Fit.{said-yes, said-no}
-use Rattle.phrase.proofs.RuleThere.{head_in, give, gives-kind}
+use Prim.Native.Nat.{ℕ}
+use mathlib.Core.Path.{refl, sym, ◌∙◌}
+use borrow.Author.Rules.{rules}
+use Rattle.std.proofs.lemmas.Iterator.{cases_from_all, YieldsList-from_range}
+use Rattle.std.proofs.lemmas.Bool.{eqb-true}
+use Rattle.meaning.specs.Range as range
+use Rattle.phrase.specs.Phrase.{item_of, row_of, fails, Has}
+use Rattle.phrase.proofs.Fit.{instead, said-yes, said-no, decides_three}
+use Rattle.phrase.proofs.RuleThere.{give, gives-kind}
 use Rattle.phrase.proofs.giving.fits.Goals as goal
+use Rattle.phrase.proofs.giving.fits.Goals.{then-x-category, else-x-category}
 
--- `phrase::giving::fits` meets its contract: an item is given where its category, its daughters' kinds and its three ranges are.
-pub overflow_add-third : goal.overflow_add-third
-overflow_add-third c = omega (arith, head_in c.args.table.now c.args.rule c.requires)
+pub returns-then-kinds : goal.returns-then-kinds
+returns-then-kinds c = let a = c.args in
+    let rule = a.rule in
+    elim c.if-x-category.branch [
+      | then-x-category w ↦
+          let P = λ (i : ℕ). Has a.words.now a.d (row_of rule.table.now rule.at i) (range.at (item_of a.x) i) in
+          let kind = w.if-x-category.true ∙ c.category.ensures.0 in
+          let kinds = said-yes w.kinds.ensures (sym w.value-is ∙ c.if-kinds.true) in
+          let each = YieldsList-from_range 0 3 3 refl refl in
+          instead (give rule.table.now rule.at rule.of_table a.d a.words.now a.x kind kinds) (λ g i l. g.rows i)
+          (decides_three P _ (cases_from_all _ _ _ P (λ i. P i → ⊥) c.all.ensures.ran each (λ x q k. search (rules, said-yes)) (λ x q k. search (rules, said-no))))
+      | else-x-category w ↦ absurd (w.if-x-category.false (eqb-true _ _ (sym w.value-is ∙ c.if-kinds.true)))
+    ]
 
-pub returns-then-x-byte_at : goal.returns-then-x-byte_at
-returns-then-x-byte_at c = let byte_at = c.byte_at in
-    fails (λ g. c.if-x-byte_at.true (gives-kind c.args.table.now c.args.rule c.requires c.args.d c.args.words.now c.args.x g ∙ sym byte_at.ensures.0))
-
-pub returns-then-not-kinds : goal.returns-then-not-kinds
-returns-then-not-kinds c = fails (λ g. said-no c.kinds.ensures c.if-not-kinds.true g.kinds)
-
-pub returns-then-not-range_fits : goal.returns-then-not-range_fits
-returns-then-not-range_fits c = fails (λ g. said-no c.range_fits.ensures c.if-not-range_fits.true (g.rows 0))
-
-pub returns-then-not-range_fits-2 : goal.returns-then-not-range_fits-2
-returns-then-not-range_fits-2 c = fails (λ g. said-no c.range_fits-2.ensures c.if-not-range_fits-2.true (g.rows 1))
-
-pub returns-then-not-range_fits-3 : goal.returns-then-not-range_fits-3
-returns-then-not-range_fits-3 c = fails (λ g. said-no c.range_fits-3.ensures c.if-not-range_fits-3.true (g.rows 2))
-
-pub returns : goal.returns
-returns c = let byte_at = c.byte_at in
-    holds (
-    give c.args.table.now c.args.rule c.requires c.args.d c.args.words.now c.args.x
-    (c.if-x-byte_at.false ∙ byte_at.ensures.0)
-    (said-yes c.kinds.ensures c.if-not-kinds.false)
-    (said-yes c.range_fits.ensures c.if-not-range_fits.false)
-    (said-yes c.range_fits-2.ensures c.if-not-range_fits-2.false)
-    (said-yes c.range_fits-3.ensures c.if-not-range_fits-3.false)
-    )
+pub returns-else-kinds : goal.returns-else-kinds
+returns-else-kinds c = let a = c.args in
+    let rule = a.rule in
+    elim c.if-x-category.branch [
+      | then-x-category w ↦ rw c.if-kinds.false (fails (λ g. said-no w.kinds.ensures (sym w.value-is ∙ c.if-kinds.false) g.kinds))
+      | else-x-category w ↦ rw c.if-kinds.false (fails (λ g. w.if-x-category.false (gives-kind rule.table.now rule.at rule.of_table a.d a.words.now a.x g ∙ sym c.category.ensures.0)))
+    ]

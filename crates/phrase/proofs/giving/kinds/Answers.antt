@@ -1,36 +1,24 @@
 -- `phrase::giving::kinds` meets its contract: two lists of categories are one where their lengths are, and their first three numbers.
-use mathlib.Core.Path.{◌∙◌}
-use native.Mathlib.Omega.{arith}
-use Rattle.phrase.specs.Phrase.{holds, fails}
-use Rattle.phrase.proofs.Fit.{said-yes, said-no}
-use Rattle.phrase.proofs.RuleThere.{head_in, kinds-no, kind-same, kinds-yes}
+use mathlib.Core.Path.{◌≡◌, refl}
+use borrow.Author.Tests.{ne_eqb}
+use Prim.Native.Nat.{ℕ}
+use lib.ListN.{get_or}
+use borrow.Author.Rules.{rules}
+use Rattle.meaning.specs.Giving.{categories}
+use Rattle.meaning.specs.Decode.{rule_at}
+use Rattle.phrase.specs.Phrase.{items_of, fails}
+use Rattle.phrase.proofs.Fit.{instead, said-yes, said-no, decides_three}
+use Rattle.phrase.proofs.RuleThere.{kinds-no, kind-same, kinds-yes}
+use Rattle.std.proofs.lemmas.Iterator.{cases_from_all, YieldsList-from_range}
 use Rattle.phrase.proofs.giving.kinds.Goals as goal
 
--- `phrase::giving::kinds` meets its contract: two lists of categories are one where their lengths are, and their first three numbers.
-pub overflow_add-fourth : goal.overflow_add-fourth
-overflow_add-fourth c = omega (arith, head_in c.args.table.now c.args.rule c.requires)
+pub returns-then-min-rank : goal.returns-then-min-rank
+returns-then-min-rank c = instead
+    (kinds-yes c.args.rule.table.now c.args.rule.at c.args.rule.of_table c.args.d _ _ c.min.ensures c.rank.ensures.0 c.if-min-rank.true)
+    (λ e k l. kind-same k e)
+    (let P = λ (k : ℕ). get_or (categories (items_of c.args.d)) k 0 ≡ get_or (rule_at c.args.rule.table.now c.args.rule.at).daughters k 0 in
+    decides_three P _ (cases_from_all _ _ _ P (λ k. P k → ⊥) c.all.ensures.ran (YieldsList-from_range 0 3 3 refl refl) (λ x q k. search (rules, said-yes)) (λ x q k. search (rules, said-no))))
 
-pub returns-then-few-size : goal.returns-then-few-size
-returns-then-few-size c = let few = c.few in
-    let byte_at = c.byte_at in
-    fails (kinds-no c.args.table.now c.args.rule c.requires c.args.d _ _ few.ensures (c.size.ensures ∙ byte_at.ensures.0) c.if-few-size.true)
-
-pub returns-then-not-kind_fits : goal.returns-then-not-kind_fits
-returns-then-not-kind_fits c = fails (λ e. said-no c.kind_fits.ensures c.if-not-kind_fits.true (kind-same 0 e))
-
-pub returns-then-not-kind_fits-2 : goal.returns-then-not-kind_fits-2
-returns-then-not-kind_fits-2 c = fails (λ e. said-no c.kind_fits-2.ensures c.if-not-kind_fits-2.true (kind-same 1 e))
-
-pub returns-then-not-kind_fits-3 : goal.returns-then-not-kind_fits-3
-returns-then-not-kind_fits-3 c = fails (λ e. said-no c.kind_fits-3.ensures c.if-not-kind_fits-3.true (kind-same 2 e))
-
-pub returns : goal.returns
-returns c = let few = c.few in
-    let byte_at = c.byte_at in
-    holds (
-    kinds-yes c.args.table.now c.args.rule c.requires c.args.d _ _
-    few.ensures (c.size.ensures ∙ byte_at.ensures.0) c.if-few-size.false
-    (said-yes c.kind_fits.ensures c.if-not-kind_fits.false)
-    (said-yes c.kind_fits-2.ensures c.if-not-kind_fits-2.false)
-    (said-yes c.kind_fits-3.ensures c.if-not-kind_fits-3.false)
-    )
+pub returns-else-min-rank : goal.returns-else-min-rank
+returns-else-min-rank c = rw (ne_eqb c.min.result c.rank.result c.if-min-rank.false)
+    (fails (kinds-no c.args.rule.table.now c.args.rule.at c.args.rule.of_table c.args.d _ _ c.min.ensures c.rank.ensures.0 c.if-min-rank.false))

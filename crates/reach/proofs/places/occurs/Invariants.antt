@@ -1,10 +1,5 @@
-use Prim.Native.Nat.{◌-◌}
-use lib.ListN.{length}
 use Rattle.reach.proofs.Sets.{Seen}
 use Rattle.reach.proofs.places.occurs.Given as goal
 
 abbrev pub invariant-loop-i : goal.invariant-loop-i
 invariant-loop-i l = Seen l.words l.w l.i l.set
-
-abbrev pub decreases-loop-i : goal.decreases-loop-i
-decreases-loop-i l = length l.words - l.i

@@ -9,19 +9,8 @@ loop-p-init c = gone-none _ _ _
 pub returns-then-rest-eq0 : goal.returns-then-rest-eq0
 returns-then-rest-eq0 c = gone-zero _ _ _ c.loop-p.invariant c.if-rest-eq0.true
 
-pub overflow_add-at : goal.overflow_add-at
-overflow_add-at c = omega arith
-
-pub overflow_add-p : goal.overflow_add-p
-overflow_add-p c = omega arith
-
-pub loop-p-smaller : goal.loop-p-smaller
-loop-p-smaller c = omega arith
-
 pub loop-p-preserved : goal.loop-p-preserved
-loop-p-preserved c =
-    let loop = c.loop-p in
-    gone-on _ _ _ loop.invariant (omega arith) c.lent.ensures c.both-set.ensures
+loop-p-preserved c = gone-on _ _ _ c.loop-p.invariant (omega arith) c.lent.ensures c.both-set.ensures
 
 pub returns : goal.returns
 returns c = gone-end _ _ _ c.loop-p.invariant (omega arith)

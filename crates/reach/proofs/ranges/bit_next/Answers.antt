@@ -1,30 +1,21 @@
--- `reach::ranges::bit_next` meets its contract.
-use native.Mathlib.Omega.{arith}
+-- `reach::ranges::bit_next` meets its contract: the first number of those below 64 that is in the set.
+use mathlib.Core.Bool.{true, false}
+use mathlib.Core.Path.{refl, subst}
+use Rattle.std.proofs.Common.{rules}
+use Rattle.std.proofs.lemmas.Iterator.{first_from_Range}
+use Rattle.phrase.specs.Phrase.{Decides}
 use Rattle.phrase.proofs.Fit.{said-yes, said-no}
-use Rattle.reach.proofs.Next.{unset-none, unset-on, bit-first, bit-zero, bit-none}
+use Rattle.reach.specs.Bits.{Bit}
+use Rattle.reach.proofs.Next.{bit-first, bit-zero}
 use Rattle.reach.proofs.ranges.bit_next.Goals as goal
 
 pub returns-then-set-eq0 : goal.returns-then-set-eq0
 returns-then-set-eq0 c = bit-zero _ c.if-set-eq0.true
 
-pub loop-i-init : goal.loop-i-init
-loop-i-init c = unset-none _ _ c.requires
-
-pub returns-then-has : goal.returns-then-has
-returns-then-has c =
-    let loop = c.loop-i in
-    bit-first loop.invariant (said-yes c.has.ensures c.if-has.true)
-
-pub overflow_add-i : goal.overflow_add-i
-overflow_add-i c = omega arith
-
-pub loop-i-smaller : goal.loop-i-smaller
-loop-i-smaller c = omega arith
-
-pub loop-i-preserved : goal.loop-i-preserved
-loop-i-preserved c =
-    let loop = c.loop-i in
-    unset-on c.loop-i-test.true loop.invariant (said-no c.has.ensures c.if-has.false)
-
 pub returns : goal.returns
-returns c = bit-none c.loop-i-test.false c.loop-i.invariant
+returns c =
+    let set = c.args.set in
+    bit-first set c.args.from _
+    (first_from_Range _ _ _ _ (Bit set) (λ k. Bit set k → ⊥) c.find.ensures.ran
+    (λ x q k. let o : Decides (Bit set k.shown.now) true = search rules in subst (Bit set) k.shows (said-yes o refl))
+    (λ x q k. let o : Decides (Bit set k.shown.now) false = search rules in (search rules, subst (λ k. Bit set k → ⊥) k.shows (said-no o refl))))

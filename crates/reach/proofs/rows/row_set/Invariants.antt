@@ -1,4 +1,3 @@
-use Prim.Native.Nat.{◌-◌}
 use lib.ListN.{length}
 use Rattle.meaning.specs.Decode.{row_at}
 use Rattle.phrase.specs.Phrase.{held_of}
@@ -6,8 +5,6 @@ use Rattle.reach.specs.Reach.{Known, free_of}
 use Rattle.reach.proofs.Whole.{Firsts}
 use Rattle.reach.proofs.rows.row_set.Given as goal
 
-abbrev pub invariant-loop-s : goal.invariant-loop-s
-invariant-loop-s l = Firsts l.words (Known l.ends) (free_of l.f) (held_of l.d) (row_at l.table l.place) l.s (length l.initial.sets) l.sets
-
-abbrev pub decreases-loop-s : goal.decreases-loop-s
-decreases-loop-s l = length l.words - l.s
+abbrev pub invariant-loop-start : goal.invariant-loop-start
+invariant-loop-start l =
+    Firsts l.words (Known l.ends) (free_of l.fn.f) (held_of l.fn.d) (row_at l.row.table.now l.row.at) l.start (length l.initial.set-items) l.set-items

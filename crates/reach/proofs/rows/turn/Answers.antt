@@ -1,29 +1,26 @@
 -- `reach::rows::turn` meets its contract: by the kind of the symbol.
-use mathlib.Core.Path.{ap, sym, ◌∙◌}
-use Prim.Native.Nat.{ℕ, ◌-◌}
+use mathlib.Core.Path.{ap}
 use native.Mathlib.Omega.{arith}
 use Rattle.phrase.specs.Phrase.{held_of}
-use Rattle.reach.proofs.Rowing.{turn-word, turn-part, turn-free, free-small}
+use Rattle.rules.specs.Symbols.{symbol_of}
+use Rattle.reach.proofs.Rowing.{turn-word, turn-part, turn-free}
 use Rattle.reach.proofs.rows.turn.Goals as goal
 
-pub returns-then-kind-eq0 : goal.returns-then-kind-eq0
-returns-then-kind-eq0 c =
+pub returns-in-Word : goal.returns-in-Word
+returns-in-Word c =
     let a = c.args in
-    turn-word a.table.now a.words.now a.ends.now a.f (held_of a.d) a.start a.at a.p _ (sym c.byte_at-kind.ensures.0 ∙ c.if-kind-eq0.true)
-    c.number_at-n.ensures c.word_turn.ensures
+    turn-word a.on.words.now a.on.ends.now a.on.free (held_of a.on.chosen) a.on.start a.p _ (ap symbol_of c.in-Word.is) c.over_word.ensures
 
-pub returns-then-category-eq0 : goal.returns-then-category-eq0
-returns-then-category-eq0 c =
+pub returns-in-None : goal.returns-in-None
+returns-in-None c =
     let a = c.args in
-    turn-part a.table.now a.words.now a.ends.now a.f (held_of a.d) a.start a.at a.p _ (λ z. c.if-kind-eq0.false (c.byte_at-kind.ensures.0 ∙ z))
-    (c.less-k.ensures ∙ ap (λ (n : ℕ). n - 1) c.byte_at-kind.ensures.0) (sym c.free_at-category.ensures ∙ c.if-category-eq0.true) c.held.ensures.0
-    (c.less.ensures ∙ ap (λ (n : ℕ). n - 1) c.number_at-n.ensures) c.part_turn.ensures
+    turn-part a.on.words.now a.on.ends.now a.on.free (held_of a.on.chosen) a.on.start a.p _ (ap symbol_of c.in-Part.is) c.in-None.ensures c.held.ensures.0 c.over_part.ensures
 
-pub free_turn-requires : goal.free_turn-requires
-free_turn-requires c = (c.requires.2, omega (arith, c.if-category-eq0.false), omega (arith, free-small c.less-k.result c.requires.1, c.free_at-category.ensures), c.requires.1.fair.upward)
-
-pub returns : goal.returns
-returns c =
+pub returns-in-Some : goal.returns-in-Some
+returns-in-Some c =
     let a = c.args in
-    turn-free a.table.now a.words.now a.ends.now a.f (held_of a.d) a.start a.at a.p _ (λ z. c.if-kind-eq0.false (c.byte_at-kind.ensures.0 ∙ z))
-    (c.less-k.ensures ∙ ap (λ (n : ℕ). n - 1) c.byte_at-kind.ensures.0) c.requires.1.fair c.free_at-category.ensures c.if-category-eq0.false c.free_turn.ensures
+    turn-free a.on.words.now a.on.ends.now a.on.free (held_of a.on.chosen) a.on.start a.p _ (ap symbol_of c.in-Part.is)
+    a.on.asked.fair c.in-Some.ensures.0 (λ e. absurd (omega (arith, c.in-Some.ensures.1))) c.over_free.ensures
+
+pub over_free-requires : goal.over_free-requires
+over_free-requires c = (c.in-Some.ensures.1, omega (arith, c.in-Some.ensures.0, c.args.on.asked.small c.in-Part.k))

@@ -6,4 +6,4 @@ pub returns-then-allowance-eq0 : goal.returns-then-allowance-eq0
 returns-then-allowance-eq0 c = sym (allowed-none _ c.if-allowance-eq0.true)
 
 pub returns : goal.returns
-returns c = c.smaller.ensures ∙ sym (allowed-some _ c.if-allowance-eq0.false)
+returns c = c.min.ensures ∙ sym (allowed-some _ c.if-allowance-eq0.false)

@@ -1,4 +1,4 @@
--- `walk::find_rule` meets its contract: what `named` says of all rules, it says of those from rule i on. Assumes nothing.
+-- `walk::find_rule` meets its contract: what `named` says of all rules, it says of those from a rule on. Assumes nothing.
 use native.Mathlib.Omega.{arith}
 use Prim.Native.Nat.{◌+◌, ◌-◌, ◌<◌}
 use mathlib.Core.Path.{◌≡◌, sym, ap, ◌∙◌}
@@ -8,32 +8,30 @@ use Rattle.rules.specs.Walk.{known, unknown}
 use Rattle.rules.proofs.Walks.{place-first, place-next, end-within, named_start, named_none, named_here, named-on}
 use Rattle.rules.proofs.walk.find_rule.Goals as goal
 
-pub loop-i-init : goal.loop-i-init
-loop-i-init c = let t = c.args.table.now in
-    (omega arith, c.first_rule-at.ensures ∙ place-first t, named_start t _ _ _ (omega (arith, c.rule_count-count.ensures)) c.first_rule-at.ensures)
+pub loop-init : goal.loop-init
+loop-init c = let t = c.args.table.bytes.now in
+    (c.first_rule-at.ensures ∙ place-first t, named_start t _ _ _ (omega (arith, c.rule_count-end.ensures)) c.first_rule-at.ensures)
 
-pub returns-then-number_at-f : goal.returns-then-number_at-f
-returns-then-number_at-f c = let l = c.loop-i in
-    let h : l.i < number c.args.table.now 7 = omega (arith, c.rule_count-count.ensures) in
-    known (record { accepted = c.requires; index = l.i; below = h; there = l.invariant.1 })
-    (l.invariant.2 ∙ named_here c.args.table.now _ _ _ (omega arith) (sym c.number_at.ensures ∙ c.if-number_at-f.true))
+pub returns-then-function-f-clause-found : goal.returns-then-function-f-clause-found
+returns-then-function-f-clause-found c = let l = c.loop in
+    let t = c.args.table.bytes.now in
+    let h : l.counter < number t 7 = omega (arith, c.loop-test.true, c.rule_count-end.ensures) in
+    known (record { accepted = c.args.table.accepted; index = l.counter; below = h; there = l.invariant.0 })
+    (l.invariant.1 ∙ named_here t _ _ _ (omega (arith, c.loop-test.true)) (sym c.function.ensures ∙ c.if-function-f.true))
 
 pub rule_end-at-requires : goal.rule_end-at-requires
-rule_end-at-requires c = let l = c.loop-i in
-    end-within c.args.table.now c.requires _ l.i l.invariant.1 (omega (arith, c.rule_count-count.ensures))
+rule_end-at-requires c = let l = c.loop in
+    end-within c.args.table.bytes.now c.args.table.accepted _ l.counter l.invariant.0 (omega (arith, c.loop-test.true, c.rule_count-end.ensures))
 
-pub loop-i-smaller : goal.loop-i-smaller
-loop-i-smaller c = omega arith
-
-pub loop-i-preserved : goal.loop-i-preserved
-loop-i-preserved c = let l = c.loop-i in
-    let t = c.args.table.now in
-    let n = c.rule_count-count.result in
-    let e : n - (l.i + 1) ≡ n - l.i - 1 = omega arith in (
-      omega arith,
-      c.rule_end-at.ensures ∙ ap (rule_end t) l.invariant.1 ∙ place-next t l.i,
-      rw (e, c.rule_end-at.ensures) (l.invariant.2 ∙ named-on t _ _ _ (omega arith) (λ q. c.if-number_at-f.false (c.number_at.ensures ∙ q))),
+pub loop-preserved : goal.loop-preserved
+loop-preserved c = let l = c.loop in
+    let t = c.args.table.bytes.now in
+    let n = c.rule_count-end.result in
+    let e : n - (l.counter + 1) ≡ n - l.counter - 1 = omega arith in (
+      c.rule_end-at.ensures ∙ ap (rule_end t) l.invariant.0 ∙ place-next t l.counter,
+      rw (e, c.rule_end-at.ensures)
+          (l.invariant.1 ∙ named-on t _ _ _ (omega (arith, c.loop-test.true)) (λ q. c.if-function-f.false (c.function.ensures ∙ q))),
     )
 
-pub returns : goal.returns
-returns c = let l = c.loop-i in unknown (l.invariant.2 ∙ named_none _ _ _ _ (omega arith))
+pub returns-clause-found : goal.returns-clause-found
+returns-clause-found c = unknown (c.loop.invariant.1 ∙ named_none _ _ _ _ (omega (arith, c.loop-test.false)))

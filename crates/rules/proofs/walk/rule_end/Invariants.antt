@@ -1,9 +1,7 @@
 use mathlib.Core.Path.{◌≡◌}
+use Prim.Native.Nat.{◌-◌}
 use Rattle.meaning.specs.Decode.{past, row_end, rule_end}
 use Rattle.rules.proofs.walk.rule_end.Given as goal
 
-abbrev pub invariant-loop-left : goal.invariant-loop-left
-invariant-loop-left l = rule_end l.table l.rule ≡ past l.left (row_end l.table) l.at
-
-abbrev pub decreases-loop-left : goal.decreases-loop-left
-decreases-loop-left l = l.left
+abbrev pub invariant-loop : goal.invariant-loop
+invariant-loop l = rule_end l.table l.rule ≡ past (l.rows - l.counter) (row_end l.table) l.at

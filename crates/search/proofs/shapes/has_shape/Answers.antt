@@ -7,20 +7,17 @@ use Rattle.search.proofs.Likeness.{rule-in, rule-here, like-begins, like-here, l
 use native.Mathlib.Omega.{arith}
 use Rattle.search.proofs.shapes.has_shape.Goals as goal
 
-pub loop-i-init : goal.loop-i-init
-loop-i-init c = (omega arith, first-place _ _ c.first_rule-at.ensures, like-begins _ refl)
-
-pub same_shape-requires : goal.same_shape-requires
-same_shape-requires c = (rule-here _ c.loop-i.invariant.1 c.requires.0.accepted (omega (arith, c.requires.1)), c.requires.0)
+pub loop-init : goal.loop-init
+loop-init c = (first-place _ _ c.first_rule-at.ensures, like-begins _ refl)
 
 pub returns-then-same_shape : goal.returns-then-same_shape
-returns-then-same_shape c = holds (like-here _ c.loop-i.invariant.1 _ (omega arith) (said-yes c.same_shape.ensures c.if-same_shape.true))
+returns-then-same_shape c = holds (like-here _ c.loop.invariant.0 _ (omega arith) (said-yes c.same_shape.ensures c.if-same_shape.true))
 
 pub rule_end-at-requires : goal.rule_end-at-requires
-rule_end-at-requires c = (rule-in (rule-here _ c.loop-i.invariant.1 c.requires.0.accepted (omega (arith, c.requires.1)))).1
+rule_end-at-requires c = (rule-in (rule-here _ c.loop.invariant.0 c.args.rule.of_table.accepted (omega (arith, c.requires)))).1
 
-pub loop-i-preserved : goal.loop-i-preserved
-loop-i-preserved c = (omega arith, next_place _ _ _ _ c.loop-i.invariant.1 c.rule_end-at.ensures, like-none _ c.loop-i.invariant.1 c.loop-i.invariant.2 (said-no c.same_shape.ensures c.if-same_shape.false))
+pub loop-preserved : goal.loop-preserved
+loop-preserved c = (next_place _ _ _ _ c.loop.invariant.0 c.rule_end-at.ensures, like-none _ c.loop.invariant.0 c.loop.invariant.1 (said-no c.same_shape.ensures c.if-same_shape.false))
 
 pub returns : goal.returns
-returns c = fails (like-ends c.loop-i.invariant.2 (omega arith))
+returns c = fails (like-ends c.loop.invariant.1 (omega arith))

@@ -1,9 +1,7 @@
 -- `sentence::place_for` meets its contract: what the search found. Assumes nothing.
-use Rattle.sentence.proofs.Places.{found-place}
+use Rattle.std.proofs.Common.{rules}
+use Rattle.sentence.proofs.Places.{place-found}
 use Rattle.sentence.proofs.nodes.place_for.Goals as goal
 
-pub returns-in-At : goal.returns-in-At
-returns-in-At c = (found-place _ _ c.requires c.find_rule-found.ensures).0 _ c.in-At.is
-
-pub returns-in-Unknown : goal.returns-in-Unknown
-returns-in-Unknown c = (found-place _ _ c.requires c.find_rule-found.ensures).1 c.in-Unknown.is
+pub returns : goal.returns
+returns c = place-found _ _ c.args.table.accepted c.find_rule.result c.find_rule.ensures.found (λ x e. search rules) c.map_or.ensures

@@ -1,5 +1,5 @@
 use mathlib.Core.Path.{◌≡◌}
-use Prim.Native.Nat.{◌+◌, ◌*◌, ◌≤◌}
+use Prim.Native.Nat.{◌+◌, ◌-◌, ◌*◌}
 use lib.ListN.{length}
 use Rattle.sentence.specs.Speech.{run, spelled, below}
 use Rattle.sentence.proofs.Turns.{Still}
@@ -13,11 +13,9 @@ abbrev pub decreases-symbol : goal.decreases-symbol
 decreases-symbol l = 2 * l.fewer + 1
 
 -- `say`: what is still to be written of the row from here on
-abbrev pub invariant-say-loop-symbols : goal.invariant-say-loop-symbols
-invariant-say-loop-symbols l =
-    Still (spelled l.table l.nodes l.left l.at l.c) l.initial.text l.pos (run l.table (below l.table l.nodes l.fewer l.at) l.symbols l.place) l.text l.next
-    × (l.place + 3 * l.symbols ≤ length l.table + 67500)
+abbrev pub invariant-say-loop-i : goal.invariant-say-loop-i
+invariant-say-loop-i l =
+    let t = l.nodes.table.now in
+    let ns = l.nodes.places.now in
+    Still (spelled t ns l.left l.at l.c) l.initial.text l.pos (run t (below t ns (l.left - 1) l.at) (l.i-end - l.i) (l.row + 1 + 3 * l.i)) l.text l.next
     × (length l.text ≡ length l.initial.text)
-
-abbrev pub decreases-say-loop-symbols : goal.decreases-say-loop-symbols
-decreases-say-loop-symbols l = l.symbols

@@ -2,33 +2,35 @@
 use mathlib.Core.Path.{◌≡◌, sym, ap, ◌∙◌}
 use Prim.Native.Nat.{ℕ, ◌+◌, ◌-◌, ◌*◌, ◌<◌}
 use native.Mathlib.Omega.{arith}
-use Rattle.meaning.specs.Table.{byte}
+use Rattle.meaning.specs.Table.{byte, rank_of}
 use Rattle.meaning.specs.Decode.{past, row_end, rows_of}
 use Rattle.meaning.proofs.Places.{past-turn, past-none, rows_are, row_is}
 use Rattle.sentence.proofs.Turns.{row-bound}
 use Rattle.sentence.proofs.speech.row_place.Goals as goal
 
-pub loop-left-init : goal.loop-left-init
-loop-left-init c =
+pub loop-init : goal.loop-init
+loop-init c =
     let t = c.args.table.now in
     let rule = c.args.rule in
-    let rank = sym (c.size.ensures ∙ c.byte_at.ensures.0) in
-    let e : rows_of t rule ≡ rule + 4 + c.size.result = rows_are t rule ∙ ap (λ (n : ℕ). rule + 4 + n) rank in
-    (ap (past c.args.c (row_end t)) e, omega (arith, c.byte_at.ensures.1, c.size.ensures, c.requires), omega arith)
+    let rank : c.from.result ≡ rank_of t rule = c.from.ensures ∙ c.byte_at.ensures.0 in
+    let e : rows_of t rule ≡ rule + 4 + c.from.result = rows_are t rule ∙ ap (λ (n : ℕ). rule + 4 + n) (sym rank) in
+    let z : c.args.c - 0 ≡ c.args.c = omega arith in
+    (rw z (ap (past c.args.c (row_end t)) e), omega (arith, c.byte_at.ensures.1, c.from.ensures, c.requires))
 
-pub loop-left-preserved : goal.loop-left-preserved
-loop-left-preserved c =
+pub loop-preserved : goal.loop-preserved
+loop-preserved c =
     let a = c.args in
     let t = a.table.now in
-    let l = c.loop-left in
-    let h = c.loop-left-test.true in
-    let e : c.size-in-loop-left.result ≡ byte t l.at = c.size-in-loop-left.ensures ∙ c.byte_at-in-loop-left.ensures.0 in
-    let f : row_end t l.at ≡ l.at + 1 + 3 * c.size-in-loop-left.result = row_is t l.at ∙ ap (λ (n : ℕ). l.at + 1 + 3 * n) (sym e) in
-    let small : c.size-in-loop-left.result < 256 = omega (arith, c.byte_at-in-loop-left.ensures.1, c.size-in-loop-left.ensures) in (
-      l.invariant.0 ∙ past-turn _ _ _ h ∙ ap (past (l.left - 1) (row_end t)) f,
-      row-bound t l.at l.left a.c c.size-in-loop-left.result e small l.invariant.1 l.invariant.2 h,
-      omega arith,
-    )
+    let l = c.loop in
+    let left = a.c - l.counter in
+    let h : 0 < left = omega (arith, c.loop-test.true) in
+    let n : a.c - (l.counter + 1) ≡ left - 1 = omega arith in
+    let b = c.from-in-loop.result in
+    let e : b ≡ byte t l.at = c.from-in-loop.ensures ∙ c.byte_at-in-loop.ensures.0 in
+    let f : row_end t l.at ≡ l.at + 1 + 3 * b = row_is t l.at ∙ ap (λ (n : ℕ). l.at + 1 + 3 * n) (sym e) in
+    let small : b < 256 = omega (arith, c.byte_at-in-loop.ensures.1, c.from-in-loop.ensures) in
+    rw n (l.invariant.0 ∙ past-turn _ _ _ h ∙ ap (past (left - 1) (row_end t)) f, row-bound t l.at left a.c b e small l.invariant.1 (omega arith) h)
 
 pub returns : goal.returns
-returns c = (sym (c.loop-left.invariant.0 ∙ past-none _ _ _ (omega arith)), omega arith)
+returns c = let h = c.loop-test.false in
+    (sym (c.loop.invariant.0 ∙ past-none _ _ _ (omega (arith, h))), omega (arith, c.loop.invariant.1, c.requires))

@@ -1,5 +1,5 @@
 use mathlib.Core.Path.{◌≡◌}
-use Prim.Native.Nat.{◌+◌, ◌-◌, ◌*◌, ◌≤◌}
+use Prim.Native.Nat.{◌+◌, ◌*◌, ◌≤◌}
 use lib.ListN.{length}
 use Rattle.sentence.specs.Nodes.{walked}
 use Rattle.sentence.proofs.Walks.{Here}
@@ -7,7 +7,6 @@ use Rattle.sentence.proofs.walk.first_wrong.Given as goal
 
 abbrev pub invariant-loop-i : goal.invariant-loop-i
 invariant-loop-i l =
-    (walked l.table l.nodes ≡ Here l.table l.nodes l.i l.wanted l.stack) × (l.wanted ≤ 1 + 2 * l.i) × (l.i ≤ length l.nodes) × (length l.stack ≡ 512)
-
-abbrev pub decreases-loop-i : goal.decreases-loop-i
-decreases-loop-i l = length l.nodes - l.i
+    let t = l.nodes.table.now in
+    let ns = l.nodes.places.now in
+    (walked t ns ≡ Here t ns l.i l.wanted l.stack) × (l.wanted ≤ 1 + 2 * l.i) × (length l.stack ≡ 512)

@@ -1,47 +1,44 @@
 -- `write` meets its contract: it calls itself for daughters, whose heights are lower.
 use native.Mathlib.Omega.{arith}
-use Prim.Native.Nat.{◌<◌}
-use lib.ListN.{length-set}
+use Prim.Native.Nat.{◌+◌, ◌≤◌, ◌<◌}
 use Rattle.tree.specs.Writing.{rank, function_at, height_at}
-use Rattle.tree.proofs.Laws.{none_yet}
-use Rattle.tree.proofs.Steps.{none-of-it, one-daughter, all-daughters}
+use Rattle.tree.proofs.Records.{daughter-there, daughters-end}
+use Rattle.tree.proofs.Steps.{none-of-it, one-daughter, some-daughters, all-daughters}
 use Rattle.tree.proofs.writing.+write.Goals as goal
 
 pub returns-then-out-pos : goal.returns-then-out-pos
 returns-then-out-pos t c =
-    let a = c.args in
-    none-of-it a.table.now a.chart.now a.count c.requires.falling a.at c.requires.at_lt_count _ _ c.if-out-pos.true
+    let a = c.args.chart.now in
+    none-of-it a.table.bytes.now a.numbers.now a.count a.falling c.args.at c.requires _ _ c.if-out-pos.true
 
-pub loop-k-init : goal.loop-k-init
-loop-k-init t c = (
-  omega arith,
-  omega (arith, c.rank_of-daughters.ensures, c.requires.falling.three c.args.at c.requires.at_lt_count),
-  none_yet _ _ (simp length-set (omega arith)),
-)
+pub write-requires : goal.write-requires
+write-requires t c =
+    let a = c.args.chart.now in
+    let (l, e) = daughter-there a.table.bytes.now a.numbers.now c.args.at c.rank_of.result c.rank_of.ensures c.loop-daughter-test.true c.from.ensures in
+    let low : height_at a.numbers.now c.from.result < height_at a.numbers.now c.args.at = rw e (a.falling.lower c.args.at c.loop-daughter.daughter-index c.requires l) in
+    (omega (arith, c.decreases), rw e (a.falling.below c.args.at c.loop-daughter.daughter-index c.requires l))
 
-pub write-next-requires : goal.write-next-requires
-write-next-requires t c =
-    let a = c.args in
-    let k = c.loop-k.k in
-    let l : k < rank a.table.now (function_at a.chart.now a.at) = omega (arith, c.rank_of-daughters.ensures, c.loop-k-test.true) in
-    let falls = c.requires.falling in
-    let h = c.requires.at_lt_count in
-    let low : height_at a.chart.now c.size-daughter.result < height_at a.chart.now a.at = rw c.size-daughter.ensures (falls.lower a.at k h l) in
-    (omega (arith, c.decreases), (falls, rw c.size-daughter.ensures (falls.below a.at k h l)))
+pub returns-in_err-next : goal.returns-in_err-next
+returns-in_err-next t c =
+    let a = c.args.chart.now in
+    let k = c.loop-daughter.daughter-index in
+    let (l, e) = daughter-there a.table.bytes.now a.numbers.now c.args.at c.rank_of.result c.rank_of.ensures c.loop-daughter-test.true c.from.ensures in
+    let w = one-daughter a.table.bytes.now a.numbers.now a.count a.falling c.args.at c.requires k l c.loop-daughter.invariant (rw e at c.in_err-next.ensures) in
+    rw c.from_residual.ensures
+    (some-daughters a.table.bytes.now a.numbers.now a.count a.falling c.args.at c.requires (k + 1) c.args.out.now c.args.pos (omega arith) w)
 
-pub loop-k-preserved : goal.loop-k-preserved
-loop-k-preserved t c =
-    let a = c.args in
-    let l = c.loop-k in
-    let m : l.k < rank a.table.now (function_at a.chart.now a.at) = omega (arith, c.rank_of-daughters.ensures, c.loop-k-test.true) in (
-      omega arith,
-      l.invariant.1,
-      one-daughter a.table.now a.chart.now a.count c.requires.falling a.at c.requires.at_lt_count l.k m l.invariant.2
-          (rw c.size-daughter.ensures at c.write-next.ensures),
-    )
+pub loop-daughter-preserved : goal.loop-daughter-preserved
+loop-daughter-preserved t c =
+    let a = c.args.chart.now in
+    let (l, e) = daughter-there a.table.bytes.now a.numbers.now c.args.at c.rank_of.result c.rank_of.ensures c.loop-daughter-test.true c.from.ensures in
+    one-daughter a.table.bytes.now a.numbers.now a.count a.falling c.args.at c.requires c.loop-daughter.daughter-index l c.loop-daughter.invariant
+    (rw e at c.in_ok-next.ensures)
 
 pub returns : goal.returns
 returns t c =
-    let a = c.args in
-    all-daughters a.table.now a.chart.now a.count c.requires.falling a.at c.requires.at_lt_count c.loop-k.k a.out.now a.pos
-    (omega arith) (omega (arith, c.rank_of-daughters.ensures, c.loop-k-test.false)) c.loop-k.invariant.2
+    let a = c.args.chart.now in
+    let m : rank a.table.bytes.now (function_at a.numbers.now c.args.at) ≤ c.loop-daughter.daughter-index =
+    daughters-end a.table.bytes.now a.numbers.now c.args.at c.rank_of.result c.rank_of.ensures (omega (arith, c.loop-daughter-test.false)) c.requires a.falling.size
+    (omega (arith, c.rank_of.ensures, a.falling.three c.args.at c.requires)) in
+    all-daughters a.table.bytes.now a.numbers.now a.count a.falling c.args.at c.requires c.loop-daughter.daughter-index c.args.out.now c.args.pos
+    (omega arith) m c.loop-daughter.invariant

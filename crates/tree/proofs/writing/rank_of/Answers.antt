@@ -1,15 +1,9 @@
 -- `tree::writing::rank_of` meets its contract: the rule's fourth byte is its rank, and where there is no rule it is 0.
-use mathlib.Core.Path.{◌∙◌}
-use native.Mathlib.Omega.{arith}
-use Rattle.tree.proofs.Ranks.{rank-there, rank-none}
+use mathlib.Core.Path.{ap}
+use Rattle.std.proofs.lemmas.Option.{IfSome_then}
+use Rattle.tree.proofs.Ranks.{rank-found}
 use Rattle.tree.proofs.writing.rank_of.Goals as goal
 
-pub overflow_add-fourth : goal.overflow_add-fourth
-overflow_add-fourth c = omega (arith, (rank-there c.find_rule-found.ensures c.in-At.is).0)
-
-pub returns-in-Unknown : goal.returns-in-Unknown
-returns-in-Unknown c = rank-none c.find_rule-found.ensures c.in-Unknown.is
-
-pub returns-in-At : goal.returns-in-At
-returns-in-At c = let (w, e) = rank-there c.find_rule-found.ensures c.in-At.is in
-    c.size.ensures ∙ c.byte_at.ensures.0 ∙ e
+pub returns : goal.returns
+returns c =
+    rank-found c.find_rule.result c.find_rule.ensures.found (IfSome_then c.find_rule.result c.find_rule.ensures.of_table (λ x e. ap (λ b. b.now) e)) c.map_or.ensures

@@ -1,11 +1,9 @@
-use mathlib.Core.Path.{◌≡◌}
+use Rattle.std.proofs.Common.{◌≡◌, ◌-◌}
 use Rattle.meaning.specs.Table.{times, symbol}
-use Rattle.table.specs.Views.{used_of, Square}
+use Rattle.table.specs.Views.{used_of}
 use Rattle.table.proofs.cursor.Cursor.symbols.Given as goal
 
-abbrev pub invariant-loop-left : goal.invariant-loop-left
-invariant-loop-left l =
-    (times l.initial.left (symbol l.table l.rule) (l.initial.c.at, used_of l.initial.used) ≡ times l.left (symbol l.table l.rule) (l.c.at, used_of l.used)) × Square l.used
-
-abbrev pub decreases-loop-left : goal.decreases-loop-left
-decreases-loop-left l = l.left
+abbrev pub invariant-loop : goal.invariant-loop
+invariant-loop l =
+    times l.count (symbol l.rule.table.now l.rule.at) (l.fn.self.at, used_of l.initial.marks.used)
+    ≡ times (l.count - l.counter) (symbol l.rule.table.now l.rule.at) (l.c.at, used_of l.marks.used)

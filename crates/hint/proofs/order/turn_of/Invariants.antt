@@ -1,8 +1,0 @@
-use Prim.Native.Nat.{◌≤◌, ◌-◌}
-use Rattle.hint.proofs.order.turn_of.Given as goal
-
-abbrev pub invariant-loop-i : goal.invariant-loop-i
-invariant-loop-i l = l.i ≤ 3
-
-abbrev pub decreases-loop-i : goal.decreases-loop-i
-decreases-loop-i l = 3 - l.i

@@ -1,4 +1,5 @@
 // The static library: the calls of `board` under C names, each with the contract that it has there.
+// Kept beside `board`: C needs them, and no crate can stand on a static library.
 #![tactic(auto)]
 
 ghost use Rattle.std.specs.Prelude.{get_or};

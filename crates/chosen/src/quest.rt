@@ -9,7 +9,8 @@ use phrase::Item;
 use rules::Rule;
 
 // A rule, a sentence, the known items, and the goal, which is the item that is looked for.
-// Kept beside search's `Task`: a task wants any item of a height, a quest this one, and each has facts that the other has not.
+// Kept beside search's `Task`: a task wants any item of a height, a quest this one. Three facts of the known items are in both; a type for these
+// three would be read through one more field by every law of either.
 #[derive(Clone, Copy)]
 pub(crate) struct Quest<'a> {
     pub rule: Rule<'a>,

@@ -11,6 +11,7 @@ pub fn outside(low: u16, high: u16, x: u16) -> bool
 }
 
 // The byte at a place, 0 past the table's end.
+// Kept: 0 there, here and in `number_at`, as `byte` and `number` of crate meaning have it.
 pub fn byte_at(table: &[u8], at: usize) -> u16
     ensures { (result ≡ spec.byte table.now at) × (result < 256) }
 {

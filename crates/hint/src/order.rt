@@ -9,6 +9,7 @@ use phrase::{Daughters, Item, row_of};
 use rules::{Row, Rule, Symbol};
 
 // Daughter k, from 0; the third past it.
+// Kept: a match, since `Daughters` has a field for each.
 pub(crate) fn seat(d: Daughters, k: usize) -> Item
     ensures { result ≡ spec.seat d k }
 {

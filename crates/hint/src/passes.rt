@@ -22,6 +22,7 @@ fn sharpened(side: Side, place: Place, w: Want) -> Want
 }
 
 // Asks besides that a symbol, if it is a part of daughter k, starts, or ends, at a place; past the third part there is nothing to ask.
+// Kept: a match, since `Wants` has a field for each part.
 #[inline(always)]
 fn ask(side: Side, k: usize, x: Symbol, place: Place, w: Wants) -> Wants
     ensures { Sharper (PartAs side k (symbol_of x) place) w result }

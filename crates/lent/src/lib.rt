@@ -39,6 +39,7 @@ fn is_sound(table: Table, words: &[u16], x: Record, count: usize) -> bool
 }
 
 // Whether the first count records of a lent chart are sound, and none too many.
+// Kept: here and above the count stands beside the chart, as the C call `mcg_tree` lends it.
 pub fn check_chart(
     table: Table,
     words: &[u16],

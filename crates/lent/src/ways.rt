@@ -9,6 +9,7 @@ use phrase::{Daughters, fits};
 use rules::Rule;
 
 // The greatest height of the daughters; 0 without daughters.
+// Kept beside search's `top`, which takes all three: there a daughter that is not chosen has height 0.
 fn tallest(d: Daughters) -> u16
     ensures { result ≡ spec.tallest (knowns_of d) }
 {

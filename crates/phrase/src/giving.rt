@@ -31,6 +31,7 @@ fn range_fits(rule: Rule, words: &[u16], d: Daughters, x: Item, i: usize) -> boo
 }
 
 // Whether the item is one of those that the rule gives with these daughters.
+// Kept: words and daughters side by side, here and in `row_next`, as `Gives` and `Has`, whose meaning stays, have them: a struct would be built at each call.
 pub fn fits(rule: Rule, words: &[u16], d: Daughters, x: Item) -> bool
     ensures { Decides (GivesAt rule.entry.table.now words.now rule.entry.at d x) result }
 {

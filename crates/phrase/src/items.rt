@@ -17,8 +17,8 @@ pub struct Item {
 }
 
 // The first count of three items.
-// Kept: a count, since there is no heap; and a field for each daughter, since an array is a list of any length in a clause, so that each law over
-// daughters would have to say that there are three.
+// Kept: a count, since there is no heap; and a field for each daughter, as `items_of`, `seat`, `put` and `Partial`, whose meaning stays, have them:
+// an array is a list of any length in a clause, so each law over daughters would have to say that there are three.
 #[derive(Clone, Copy)]
 pub struct Daughters {
     pub count: usize,
@@ -49,6 +49,7 @@ pub fn range_at(x: Item, i: usize) -> Range
 }
 
 // Daughter k, from 0, if there is one.
+// Kept: a match, since `Daughters` has a field for each.
 fn daughter(d: Daughters, k: usize) -> Option<Item>
     ensures { daughter_of result ≡ get_or (items_of d) k nothing }
 {

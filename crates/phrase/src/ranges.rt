@@ -5,6 +5,7 @@ ghost use Rattle.phrase.specs.Row as row;
 ghost use Rattle.phrase.specs.Phrase.{range_of, join_of};
 
 // Words from..to, or nothing as 0, 0.
+// Kept: 0, 0 and no Option, as document 01 and `none` of crate meaning have the empty range.
 #[derive(Clone, Copy, PartialEq, Eq)]
 pub struct Range {
     pub from: usize,

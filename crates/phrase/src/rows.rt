@@ -12,6 +12,7 @@ use rules::{Row, Rule, Symbol};
 use std::ops;
 
 // Row i of the rule, from 0, if it has one.
+// Kept: the loop stands in `rule_end` of rules too, which asks for no `Rule`.
 pub fn row_of<'a>(rule: Rule<'a>, i: usize) -> Option<Row<'a>>
     ensures row { RowIs rule.entry.table.now rule.entry.at i result }
     ensures of_table { IfSome result (λ r. r.table ≡ rule.entry.table) }

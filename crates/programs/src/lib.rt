@@ -18,7 +18,7 @@ pub fn empty_chart() -> [u16; 24000]
     [0; 24000]
 }
 
-// Reads an open file, as far as there is room, and answers how many bytes came; none if it can't be read.
+// Reads an open file, as far as there is room, and answers how many bytes came; 0 if it can't be read.
 // Kept: a file that can't be read counts as empty, and what could not fail, here and in `read_file`, still can't.
 pub fn read_open<F: Read>(file: &mut F, bytes: &mut [u8]) -> usize
     ensures { IsPrefixLen result bytes.new }
@@ -65,6 +65,7 @@ fn ended(next: usize, all: usize) -> u8 {
 }
 
 // Prints numbers, a line.
+// Kept: one number after another, since the line is as long as what is lent, and there is no heap to make it in.
 pub fn print_numbers(rt: &impl Print, numbers: &[u16]) -> io::Result<()> {
     for (at, number) in numbers.iter().enumerate() {
         print(rt, u64::from(*number), ended(at + 1, numbers.len()))?;
@@ -73,6 +74,7 @@ pub fn print_numbers(rt: &impl Print, numbers: &[u16]) -> io::Result<()> {
 }
 
 // The height of the record at a place of the chart; 0 past its end, and past 2,000 records.
+// Kept: 0 there, as the clause `beyond` says; what could not fail still can't.
 pub fn height_at(chart: &[u16], place: u64) -> u64
     ensures record_height { place < 2000 → result ≡ get_or chart.now (12 * place + 2) 0 }
     ensures beyond { 2000 ≤ place → result ≡ 0 }
@@ -87,9 +89,7 @@ pub fn height_at(chart: &[u16], place: u64) -> u64
 
 // Prints the three numbers of an answer, a line.
 pub fn print_answer(rt: &impl Print, answer: &[u64; 3]) -> io::Result<()> {
-    print(rt, answer[0], b' ')?;
-    print(rt, answer[1], b' ')?;
-    print(rt, answer[2], b'\n')
+    println!(rt; "{} {} {}", answer[0], answer[1], answer[2])
 }
 
 // Prints the first records of a chart, a line for each.

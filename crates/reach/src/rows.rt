@@ -59,7 +59,8 @@ pub fn row_set(row: Row, words: &[u16], d: Daughters, f: Free, ends: &[u64], set
 {
     let n = words.len();
     for (start, set) in sets[..n].iter_mut().enumerate() {
-        // Kept: written out here and below, since the language has no `..on` for a struct with a ghost field.
+        // Kept: written out here and below, since the language has no `..on` for a struct with a ghost field, and a closure that makes one
+        // would have to require its facts.
         let on = Setting {
             words,
             chosen: d,

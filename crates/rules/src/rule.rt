@@ -33,7 +33,7 @@ pub struct Row<'a> {
 impl Rule<'_> {
     // The rule's function number.
     #[inline]
-    pub fn function(self) -> u16
+    pub(crate) fn function(self) -> u16
         ensures { result ≡ number self.entry.table.now self.entry.at }
     {
         number_at(self.table, self.at)
@@ -56,6 +56,7 @@ impl Rule<'_> {
     }
 
     // The category that the rule wants as daughter k, from 0; 0 where it wants none.
+    // Kept: 0 for none, as the definition `categories` and the look-ups beside it have it.
     #[inline]
     pub fn wanted(self, k: usize) -> u16
         ensures { result ≡ get_or (rule_at self.entry.table.now self.entry.at).daughters k 0 }

@@ -25,7 +25,7 @@ pub fn first_rule(table: &[u8]) -> usize
 
 // Where the rule at a place ends.
 // Kept: the four loops over the rules (`find_rule`, `order_rules` and two in search) go on by it: an iterator of our own would have to say by its
-// ghost members what `place_of` says, and each loop would need its number and its invariant besides, so it is no plainer.
+// ghost members what `place_of` (specs/Walk.antt) says, and each loop would need its number and its invariant besides, so it is no plainer.
 #[tactic(auto, using(crate::proofs::Walks::places))]
 pub fn rule_end(table: &[u8], rule: usize) -> usize
     requires { rule_end table.now rule ≤ length table.now }

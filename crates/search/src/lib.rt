@@ -19,6 +19,7 @@ pub use spots::{Spots, spots_of};
 pub use trying::{none_of, spots_for, top, unpack, with};
 
 // One level: what all rules give from the known items, of which the tallest has height h.
+// Kept: the table and the words side by side, here and in the calls above, as `KeyMade`, `Choosing` and `Read`, whose meaning stays, have them.
 fn level<'a>(
     table: Table<'a>,
     words: &'a [u16],

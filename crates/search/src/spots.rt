@@ -7,6 +7,7 @@ use hint::Reach;
 use store::find;
 
 // The places from lo up to gap, and from resume up to hi.
+// Kept: four numbers, as hint's `Reach` has them, which `Ordered` puts in one order.
 #[derive(Clone, Copy)]
 pub struct Spots {
     pub lo: usize,

@@ -108,7 +108,7 @@ fn then_range(key: u64, r: Range) -> u64
 
 impl Task<'_> {
     // Enters a key at the goal's height, unless it is known.
-    // Kept: here and below the new items are the first n of a lent slice, as `store::put` takes them (memory is fixed).
+    // Kept: here and below a lent slice and a count, as `store::put` takes them: `Filled`, whose meaning stays, speaks of both.
     fn enter(&self, fresh: &mut [u64], n: usize, key: u64) -> Option<usize>
         requires ready { Ready fresh.old n }
         requires key { key < 2 ^ 53 }

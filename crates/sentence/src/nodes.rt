@@ -24,6 +24,7 @@ impl Nodes<'_> {
     }
 
     // Where daughter k of the node at a place stands, both from 0.
+    // Kept: a place past the last node where there is none, as `daughter`, whose meaning stays, has it.
     pub(crate) fn daughter(self, at: usize, k: usize) -> usize
         requires { (at ≤ 510) × (k ≤ 65535) }
         ensures { result ≡ spec.daughter self.entry.table.now self.entry.places.now at k }
@@ -52,7 +53,7 @@ pub(crate) fn note(table: Table, list: &[u16], places: &mut [usize])
     requires { length places.old ≡ length list.now }
     ensures { places.new ≡ map (place_for table.entry.bytes.now) list.now }
 {
-    // Kept: of what a loop over `iter_mut().zip(..)` has written, a proof knows nothing, so each place is set by its index.
+    // Kept: by the index, since with `iter_mut().zip(list)`, which was tried, the goal `returns` stays open.
     for (i, &function) in list.iter().enumerate() {
         places[i] = place_for(table, function);
     }

@@ -7,7 +7,7 @@ use crate::nodes::Nodes;
 use fields::byte_at;
 
 // Puts the categories of a rule's daughters on the stack of those wanted, the first on top.
-// Kept: memory is fixed, so a stack is an array and how many of it count.
+// Kept: memory is fixed, and `Pushed`, whose meaning stays, speaks of an array and of how many of it count.
 fn push(table: &[u8], rule: usize, stack: &mut [u16], wanted: usize) -> usize
     requires { (rule ≤ length table.now) × (rank_of table.now rule ≤ 3) × (wanted + 3 ≤ length stack.old) }
     ensures { Pushed table.now rule wanted stack.old stack.new result }

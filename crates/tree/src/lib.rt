@@ -41,6 +41,7 @@ pub fn tree(
 ) -> Result<usize, TreeRefusal>
     ensures { TreeWritten table.now words.now chart.now count root out.old (code_of result) (place_of result) (count_of result) out.new }
 {
+    // Kept: the words are read here as in reader's `read`, since the array that lends them can't leave a function.
     check_input(table, words)?;
     let table = Table { bytes: table };
     let mut space = [0u16; 64];

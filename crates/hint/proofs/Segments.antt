@@ -72,9 +72,11 @@ module _ {A first : ℕ} (w : Wants) (is : first ≡ A) where
       go c k (inl e) = let b = of-empty c A k e in record { above = omega arith; below = omega arith }
       go c k (inr e) = let b = of-start c A k 0 e in record { above = omega arith; below = omega arith }
 
-  pub reach-start : {start : ℕ} → StartAsked w start
-      → Reaches A w (record { low = base; high = base + 2 ^ 39; low2 = base + start * 2 ^ 46; high2 = base + start * 2 ^ 46 + 2 ^ 46 })
-  reach-start {start} a = record { order = omega (arith, a.low); inside = λ c k m. go c k (met-start a.is m.one) }
+  -- the four numbers come with what each is, so that a wrong one is refused for its value
+  pub reach-start : {start low high low2 high2 : ℕ} → StartAsked w start
+      → (low ≡ base) × (high ≡ base + 2 ^ 39) × (low2 ≡ base + start * 2 ^ 46) × (high2 ≡ base + start * 2 ^ 46 + 2 ^ 46)
+      → Reaches A w (record { low = low; high = high; low2 = low2; high2 = high2 })
+  reach-start {start} a (p, q, r, s) = rw (p, q, r, s) (record { order = omega (arith, a.low); inside = λ c k m. go c k (met-start a.is m.one) })
     where
       go : (c : ℕ) → (known_of c).item.category ≡ A → ((unpacked (key_of c)).one ≡ none) ⊎ ((unpacked (key_of c)).one.from ≡ start)
           → Within base (base + 2 ^ 39) c ⊎ Within (base + start * 2 ^ 46) (base + start * 2 ^ 46 + 2 ^ 46) c

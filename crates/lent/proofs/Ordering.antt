@@ -9,7 +9,7 @@ use native.Mathlib.Decide.{dec_lt}
 use borrow.Author.Tests.{lt-ltb, le-ltb, eq-eqb, ne_eqb}
 use lib.ListN.{length, get_or}
 use Rattle.std.specs.Prelude.{Some}
-use Rattle.std.specs.Ordering.{nat_cmp, is_lt, is_some_and}
+use Rattle.std.specs.Ordering.{nat_cmp, is_lt, is_some_and, partial_lt, partial_ordering_then}
 use Rattle.std.specs.Cmp.Lexicographic.{slice_partial_cmp}
 use Rattle.meaning.specs.Order.{Lex}
 use Rattle.meaning.specs.Range.{Item, numbers}
@@ -58,14 +58,34 @@ six (a ∷ b ∷ c ∷ d ∷ []) h = absurd (omega arith)
 six (a ∷ b ∷ c ∷ d ∷ e ∷ []) h = absurd (omega arith)
 six (a ∷ b ∷ c ∷ d ∷ e ∷ f ∷ g ∷ l) h = absurd (omega arith)
 
-numbers-are : (x : CodedItem) → length x.ends ≡ 6 → numbers (item_of x) ≡ x.category ∷ x.ends
-unfolding numbers item_of
-numbers-are x h = ap (λ (l : List ℕ). x.category ∷ l) (six x.ends h)
+-- a number and a list of numbers that are an item's category and its range numbers
+pub record NumbersOf (x : CodedItem) (p : ℕ × List ℕ) : Type 0 where
+  pub category : p.0 ≡ x.category
+  pub six : length p.1 ≡ 6
+  pub end0 : get_or p.1 0 0 ≡ get_or x.ends 0 0
+  pub end1 : get_or p.1 1 0 ≡ get_or x.ends 1 0
+  pub end2 : get_or p.1 2 0 ≡ get_or x.ends 2 0
+  pub end3 : get_or p.1 3 0 ≡ get_or x.ends 3 0
+  pub end4 : get_or p.1 4 0 ≡ get_or x.ends 4 0
+  pub end5 : get_or p.1 5 0 ≡ get_or x.ends 5 0
 
-pub before-is : (x y : CodedItem) (k l : Known Item) → known_of x ≡ k → known_of y ≡ l → length x.ends ≡ 6 → length y.ends ≡ 6
-    → Decides (Before k.item l.item) (less (x.category ∷ x.ends) (y.category ∷ y.ends))
-unfolding Before known_of
-before-is x y k l e f g h = rw (← e, ← f, numbers-are x g, numbers-are y h) (lex-is _ _)
+numbers-are : (x : CodedItem) (p : ℕ × List ℕ) → NumbersOf x p → numbers (item_of x) ≡ p.0 ∷ p.1
+unfolding numbers item_of
+numbers-are x p n = rw (← n.category, ← n.end0, ← n.end1, ← n.end2, ← n.end3, ← n.end4, ← n.end5) (ap (λ (l : List ℕ). p.0 ∷ l) (six p.1 n.six))
+
+-- what `<` answers of two such pairs
+pub below : ℕ × List ℕ → ℕ × List ℕ → Bool
+below p q = less (p.0 ∷ p.1) (q.0 ∷ q.1)
+
+pub below-is : (p q : ℕ × List ℕ)
+    → partial_lt (λ a b. partial_ordering_then (Some (nat_cmp a.0 b.0)) (slice_partial_cmp (λ x y. Some (nat_cmp x y)) a.1 b.1)) p q ≡ below p q
+unfolding below
+below-is p q = refl
+
+pub before-is : (x y : CodedItem) (k l : Known Item) → known_of x ≡ k → known_of y ≡ l → {p q : ℕ × List ℕ} → NumbersOf x p → NumbersOf y q
+    → Decides (Before k.item l.item) (below p q)
+unfolding Before known_of below
+before-is x y k l e f m n = rw (← e, ← f, numbers-are x _ m, numbers-are y _ n) (lex-is _ _)
 
 -- the first record has no predecessor
 pub after_first : (c : List ℕ) (i : ℕ) → i ≡ 0 → After c i

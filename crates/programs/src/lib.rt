@@ -64,13 +64,18 @@ fn ended(next: usize, all: usize) -> u8 {
     if next < all { b' ' } else { b'\n' }
 }
 
-// Prints numbers, a line.
+// Prints the first numbers of a line of so many.
 // Kept: one number after another, since the line is as long as what is lent, and there is no heap to make it in.
-pub fn print_numbers(rt: &impl Print, numbers: &[u16]) -> io::Result<()> {
+fn print_first(rt: &impl Print, numbers: &[u16], all: usize) -> io::Result<()> {
     for (at, number) in numbers.iter().enumerate() {
-        print(rt, u64::from(*number), ended(at + 1, numbers.len()))?;
+        print(rt, u64::from(*number), ended(at + 1, all))?;
     }
     Ok(())
+}
+
+// Prints numbers, a line.
+pub fn print_numbers(rt: &impl Print, numbers: &[u16]) -> io::Result<()> {
+    print_first(rt, numbers, numbers.len())
 }
 
 // The height of the record at a place of the chart; 0 past its end, and past 2,000 records.
@@ -88,14 +93,17 @@ pub fn height_at(chart: &[u16], place: u64) -> u64
 }
 
 // Prints the three numbers of an answer, a line.
+// Kept: three numbers and what stands after each, since one write for the line would leave another part of it where the output is full.
 pub fn print_answer(rt: &impl Print, answer: &[u64; 3]) -> io::Result<()> {
-    println!(rt; "{} {} {}", answer[0], answer[1], answer[2])
+    print(rt, answer[0], b' ')?;
+    print(rt, answer[1], b' ')?;
+    print(rt, answer[2], b'\n')
 }
 
-// Prints the first records of a chart, a line for each.
+// Prints the first records of a chart, a line for each; the line of one that the chart's end cuts is not ended.
 pub fn print_records(rt: &impl Print, chart: &[u16], count: u64) -> io::Result<()> {
     for record in chart.chunks(12).take(count as usize) {
-        print_numbers(rt, record)?;
+        print_first(rt, record, 12)?;
     }
     Ok(())
 }

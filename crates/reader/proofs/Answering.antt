@@ -7,7 +7,6 @@ use native.Mathlib.Omega.{arith}
 use lib.ListN.{length, take, drop}
 use lib.Seq.{length-take-le}
 use Rattle.std.specs.Prelude.{Option, Some, None, Result, Ok, Err}
-use Rattle.std.specs.Option.{ok_or}
 use Rattle.std.specs.Result.{IsErrAnd}
 use Rattle.meaning.specs.declared.Refusal.{Refusal}
 use Rattle.meaning.specs.Table.{got, refused, byte}
@@ -21,7 +20,7 @@ use Rattle.search.proofs.Whole.{more-over, all-chart}
 use Rattle.reader.specs.Records.{Whole, Written}
 use Rattle.reader.specs.declared.answer.Reading.{Reading as Answer}
 use Rattle.reader.specs.declared.answer.ReadRefusal.{ReadRefusal}
-use Rattle.reader.specs.declared.answer.ReadRefusal.TheVariants.{Input, Full}
+use Rattle.reader.specs.declared.answer.ReadRefusal.TheVariants.{Input}
 use Rattle.reader.specs.Answers.{code_of, place_of, count_of, goal_key, Judged, Charted, Reading, Answered, too_many, charted}
 use Rattle.std.proofs.lemmas.List.{drop-replicate}
 use Rattle.reader.proofs.Inputs.{words-short}
@@ -40,20 +39,19 @@ charted-all {t} {ws} {K} w r j = record {
   there = r.there;
 }
 
--- a refusal handed on: that of the table or the words, or that there are more items than room
+-- a refusal handed on: that of the table or the words
 pub input-refused : {t w : List ℕ} {allowance : ℕ} {before : List ℕ} {r : Refusal} (a : Result Answer ReadRefusal) → refused r ≡ check_input t w
     → IsErrAnd a (λ e. e ≡ Input r) → Read t w allowance before (code_of a) (place_of a) (count_of a) before
 input-refused (Ok x) e h = absurd h
 input-refused (Err x) e h = rw h (bad_input (sym e))
 
-module _ (t ws : List ℕ) {room : ℕ} {before K : List ℕ} {found : Option ℕ} (finds : Found (KeyMade t ws) room K found) where
-  pub full-refused : {after : List ℕ} (a : Result Answer ReadRefusal) {r : ReadRefusal} → found ≡ None → Err r ≡ ok_or found (Full room) → IsErrAnd a (λ e. e ≡ r)
-      → after ≡ cleared before → Answered t ws room before (code_of a) (place_of a) (count_of a) after
-  full-refused (Ok x) e q h l = absurd h
-  full-refused {after} (Err x) {r} e q h l = let z : r ≡ Full room = cc (rw e at q) in rw (h, z) (go (rw e at finds))
-    where
-      go : Found (KeyMade t ws) room K None → Answered t ws room before 16 room 0 after
-      go (over m) = too_many (more-over t ws m) l
+-- a search with this room that answers that there are more items; the answer's place is the room
+pub full-refused : {t ws : List ℕ} {room n place : ℕ} {before K after : List ℕ} {found : Option ℕ} → Found (KeyMade t ws) n K found → found ≡ None
+    → n ≡ room → place ≡ room → after ≡ cleared before → Answered t ws room before 16 place 0 after
+full-refused {t} {ws} {room} {n} {place} {before} {K} {after} f e q p l = go (rw e at f)
+  where
+    go : Found (KeyMade t ws) n K None → Answered t ws room before 16 place 0 after
+    go (over m) = rw p (too_many (subst (λ (x : ℕ). Over (grammar_of t) ws x) q (more-over t ws m)) l)
 
 -- the first of the codes are all items, and the chart slice holds their records
 pub record FoundWhole (t ws codes before : List ℕ) (room count : ℕ) : Type 0 where
@@ -62,11 +60,11 @@ pub record FoundWhole (t ws codes before : List ℕ) (room count : ℕ) : Type 0
   pub few : length codes ≤ room
   pub fits : 12 * length codes ≤ length before
 
-pub found-whole : {t ws : List ℕ} {room : ℕ} {before b : List ℕ} {found : Option ℕ} {r : ℕ} → Reading t ws room before → length b ≡ 2000
-    → Found (KeyMade t ws) room b found → found ≡ Some r → FoundWhole t ws (take r b) before room r
-found-whole {t} {ws} {room} {before} {b} {r = r} p n f e = go (rw e at f)
+pub found-whole : {t ws : List ℕ} {room n : ℕ} {before b : List ℕ} {found : Option ℕ} {r : ℕ} → Reading t ws room before → length b ≡ 2000
+    → Found (KeyMade t ws) n b found → found ≡ Some r → n ≤ room → FoundWhole t ws (take r b) before room r
+found-whole {t} {ws} {room} {n} {before} {b} {r = r} p s f e q = go (rw e at f)
   where
-    go : Found (KeyMade t ws) room b (Some r) → FoundWhole t ws (take r b) before room r
+    go : Found (KeyMade t ws) n b (Some r) → FoundWhole t ws (take r b) before room r
     go (all h a) =
         let size : length (take r b) ≡ r = length-take-le r b (omega (arith, p.small)) in
         record {

@@ -29,10 +29,13 @@ fn sought(
     ensures { Answered table.entry.bytes.now words.now room chart.old (code_of result) (place_of result) (count_of result) chart.new }
 {
     let mut known = [0u64; 2000];
-    let found = search(table, words, &mut known, room).ok_or(ReadRefusal::Full(room));
-    // Every number is 0 where the room is too small, too, so this stands before the refusal is handed on.
+    let found = search(table, words, &mut known, room);
+    // Every number is 0 where the room is too small, too, so this stands before the refusal.
     chart.fill(0);
-    let known = &known[..found?];
+    let Some(count) = found else {
+        return Err(ReadRefusal::Full(room));
+    };
+    let known = &known[..count];
     let mut order = [0u16; 256];
     let rules = order_rules(table, &mut order);
     write_chart(table, words, &order[..rules], known, chart);

@@ -14,53 +14,54 @@ use Rattle.search.proofs.Filling.{fits}
 use Rattle.search.proofs.Levels.{exact_none, next_level, ended, apart, too_many}
 
 module _ {Mk : ℕ → ℕ → Type 0} {Gv : ℕ → List ℕ → ℕ → Type 0} (D : Deduction Mk Gv) where
-  module _ {room h k : ℕ} {b f : List ℕ} (B : Begun Mk room h k b f) where
-    space : length (take (room - k) f) ≡ room - k
-    space = length-take-le (room - k) f (omega (arith, B.fits_fresh))
+  -- left is how many more there is room for
+  module _ {room h k left : ℕ} {b f : List ℕ} (B : Begun Mk room h k b f) (rest : left ≡ room - k) where
+    space : length (take left f) ≡ left
+    space = length-take-le left f (omega (arith, rest, B.fits_fresh))
 
     count : length (take k b) ≡ k
     count = length-take-le k b (omega (arith, B.count, B.fits))
 
-    pub level-full : {ys : List ℕ} → Filled (take k b) (h + 1) (Level Gv (take k b) h) (take (room - k) f) 0 ys None → Found Mk room b None
-    level-full (over E s z o) = full (too_many D B.exact room refl s (omega (arith, space, count, B.count)) o)
+    pub level-full : {ys : List ℕ} → Filled (take k b) (h + 1) (Level Gv (take k b) h) (take left f) 0 ys None → Found Mk room b None
+    level-full (over E s z o) = full (too_many D B.exact room refl s (omega (arith, rest, space, count, B.count)) o)
 
-    module _ {ys : List ℕ} {m : ℕ} (w : Filled (take k b) (h + 1) (Level Gv (take k b) h) (take (room - k) f) 0 ys (Some m)) where
-      pub level-fits : m ≤ room - k
+    module _ {ys : List ℕ} {m : ℕ} (w : Filled (take k b) (h + 1) (Level Gv (take k b) h) (take left f) 0 ys (Some m)) where
+      pub level-fits : m ≤ left
       level-fits = omega (arith, fits w, space)
 
       adds : Sorted (take m ys) × Adds (take k b) (h + 1) (Level Gv (take k b) h) [] (take m ys)
       adds = go w
         where
-          go : {r : ℕ} → Filled (take k b) (h + 1) (Level Gv (take k b) h) (take (room - k) f) 0 ys (Some r) → Sorted (take r ys) × Adds (take k b) (h + 1) (Level Gv (take k b) h) [] (take r ys)
+          go : {r : ℕ} → Filled (take k b) (h + 1) (Level Gv (take k b) h) (take left f) 0 ys (Some r) → Sorted (take r ys) × Adds (take k b) (h + 1) (Level Gv (take k b) h) [] (take r ys)
           go (kept g s A) = (s, A)
 
       pub level-done : m ≡ 0 → Found Mk room b (Some k)
       level-done e = all B.count (ended D B.exact (subst (λ (z : ℕ). Adds (take k b) (h + 1) (Level Gv (take k b) h) [] (take z ys)) e adds.1))
 
-      module _ (size : length ys ≡ length (take (room - k) f)) where
-        fresh-part : take m (ys ++ drop (room - k) f) ≡ take m ys
-        fresh-part = take-append-le m ys (drop (room - k) f) (omega (arith, space, level-fits))
+      module _ (size : length ys ≡ length (take left f)) where
+        fresh-part : take m (ys ++ drop left f) ≡ take m ys
+        fresh-part = take-append-le m ys (drop left f) (omega (arith, space, level-fits))
 
-        pub fresh-size : length (take m (ys ++ drop (room - k) f)) ≡ m
+        pub fresh-size : length (take m (ys ++ drop left f)) ≡ m
         fresh-size = ap length fresh-part ∙ length-take-le m ys (omega (arith, space, level-fits))
 
         known-part : take k (take (k + m) b) ≡ take k b
         known-part = take-take k (k + m) b (omega arith)
 
         pub whole-size : length (take (k + m) b) ≡ k + m
-        whole-size = length-take-le (k + m) b (omega (arith, B.count, B.fits, level-fits))
+        whole-size = length-take-le (k + m) b (omega (arith, rest, B.count, B.fits, level-fits))
 
-        pub merge-ready : (length (take (k + m) b) ≡ k + length (take m (ys ++ drop (room - k) f))) × Sorted (take k (take (k + m) b)) × Sorted (take m (ys ++ drop (room - k) f)) × ((c : ℕ) → Mem c (take m (ys ++ drop (room - k) f)) → Mem c (take k (take (k + m) b)) → ⊥)
+        pub merge-ready : (length (take (k + m) b) ≡ k + length (take m (ys ++ drop left f))) × Sorted (take k (take (k + m) b)) × Sorted (take m (ys ++ drop left f)) × ((c : ℕ) → Mem c (take m (ys ++ drop left f)) → Mem c (take k (take (k + m) b)) → ⊥)
         merge-ready = (omega (arith, whole-size, fresh-size), rw known-part B.exact.sorted, rw fresh-part adds.0, rw (known-part, fresh-part) (apart D B.exact adds.1.origin))
 
         pub level-on : (zs : List ℕ) → (m ≡ 0 → ⊥) → length zs ≡ length (take (k + m) b)
-            → Merged (take k (take (k + m) b)) (take m (ys ++ drop (room - k) f)) zs → Begun Mk room (h + 1) (k + m) (zs ++ drop (k + m) b) (ys ++ drop (room - k) f)
+            → Merged (take k (take (k + m) b)) (take m (ys ++ drop left f)) zs → Begun Mk room (h + 1) (k + m) (zs ++ drop (k + m) b) (ys ++ drop left f)
         level-on zs some z M =
             let known : take (k + m) (zs ++ drop (k + m) b) ≡ zs = take_at zs (drop (k + m) b) (k + m) (z ∙ whole-size) in
             record {
               exact = rw known (next_level D B.exact refl adds.1 (rw (known-part, fresh-part) at M));
               small = B.small;
-              count = omega (arith, B.count, level-fits);
+              count = omega (arith, rest, B.count, level-fits);
               fits = simp (length-append, length-drop) (omega (arith, z, whole-size, B.fits));
               fits_fresh = simp (length-append, length-drop) (omega (arith, size, space, B.fits_fresh));
               levels = omega (arith, B.levels);

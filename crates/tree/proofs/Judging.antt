@@ -11,12 +11,11 @@ use Rattle.meaning.specs.declared.Refusal.{Refusal}
 use Rattle.meaning.specs.Table.{got, refused}
 use Rattle.meaning.specs.Decode.{grammar_of, words_of, check_input}
 use Rattle.meaning.specs.TreeWriting.{Passes, nodes, tree_room, TreeWritten, bad_input, too_many, bad_record, no_place, no_room, wrote}
-use Rattle.lent.specs.declared.ChartFault.{ChartFault}
+use Rattle.lent.specs.declared.ChartFault.TheVariants.{Many, Bad}
 use Rattle.lent.specs.Lent.{Checked, good}
 use Rattle.lent.specs.Lent as chart
 use Rattle.tree.specs.declared.answer.TreeRefusal.{TreeRefusal}
-use Rattle.tree.specs.declared.answer.TreeRefusal.TheVariants.{Input, Chart, TreeRoom}
-use Rattle.tree.specs.Faults.{chart_place}
+use Rattle.tree.specs.declared.answer.TreeRefusal.TheVariants.{Input, TreeRoom}
 use Rattle.tree.specs.Writing.{Wrote}
 use Rattle.tree.specs.Answers.{code_of, place_of, count_of, Fitted, cramped, written, Rooted, outside, inside, Judged, many, bad, passed}
 use Rattle.tree.proofs.Laws.{kept, fit, too_long}
@@ -61,12 +60,12 @@ module _ (t w c : List ℕ) (count root : ℕ) (b : List ℕ) where
     judged-written (bad i f) = rw f (bad_record e i)
     judged-written (passed s f) = rooted-written s f
 
-    -- a fault of the chart, handed on
-    pub chart-refused : (a : Result ℕ TreeRefusal) {f : ChartFault} → Checked t (words_of w) c count (Err f) → IsErrAnd a (λ e. e ≡ Chart (chart_place f))
-        → TreeWritten t w c count root b (code_of a) (place_of a) (count_of a) b
-    chart-refused (Ok n) x h = absurd h
-    chart-refused (Err r) (chart.many m) h = rw h (judged-written (many m refl))
-    chart-refused (Err r) (chart.bad i) h = rw h (judged-written (bad i refl))
+    -- a fault of the chart, handed on with its place
+    pub many-refused : {p : ℕ} → Checked t (words_of w) c count (Err Many) → p ≡ 0 → TreeWritten t w c count root b 17 p 0 b
+    many-refused (chart.many m) q = rw q (judged-written (many m refl))
+
+    pub bad-refused : {i p : ℕ} → Checked t (words_of w) c count (Err (Bad i)) → p ≡ i → TreeWritten t w c count root b 17 p 0 b
+    bad-refused (chart.bad f) q = rw q (judged-written (bad f refl))
 
     -- the chart passed
     pub tree-written : {u : Unit {0}} {d p n : ℕ} {a : List ℕ} → Checked t (words_of w) c count (Ok u) → Rooted t c count root b d p n a

@@ -1,9 +1,7 @@
 // Why the tree writer refuses.
 ghost use Rattle.std.specs.Prelude.{◌≡◌};
-ghost use Rattle.tree.specs.Faults.{chart_place};
-ghost use Rattle.tree.specs.declared.answer.TreeRefusal.TheVariants.{Input, Chart};
+ghost use Rattle.tree.specs.declared.answer.TreeRefusal.TheVariants.{Input};
 
-use lent::ChartFault;
 use meaning::Refusal;
 
 // The refusal of the table or the words; the first bad record of the chart, or 0 where it has too many; the root that is not there; the
@@ -22,16 +20,5 @@ impl From<Refusal> for TreeRefusal {
 
     fn from(why: Refusal) -> TreeRefusal {
         TreeRefusal::Input(why)
-    }
-}
-
-impl From<ChartFault> for TreeRefusal {
-    ghost from_gives = { λ fault r. r ≡ Chart (chart_place fault) };
-
-    fn from(fault: ChartFault) -> TreeRefusal {
-        match fault {
-            ChartFault::Many => TreeRefusal::Chart(0),
-            ChartFault::Bad(i) => TreeRefusal::Chart(i),
-        }
     }
 }

@@ -7,7 +7,7 @@ ghost use Rattle.tree.specs.Answers.{code_of, place_of, count_of, Rooted};
 use crate::chart::Chart;
 use crate::writing::write;
 use input::{check_input, read_words};
-use lent::check_chart;
+use lent::{ChartFault, check_chart};
 use rules::Table;
 
 mod answer;
@@ -47,11 +47,16 @@ pub fn tree(
     let mut space = [0u16; 64];
     let numbers = &mut space[..words.len() / 2];
     read_words(words, numbers);
-    check_chart(table, numbers, chart, count)?;
-    let chart = Chart {
-        table,
-        numbers: chart,
-        count,
-    };
-    write_root(chart, root, out)
+    match check_chart(table, numbers, chart, count) {
+        Err(ChartFault::Many) => Err(TreeRefusal::Chart(0)),
+        Err(ChartFault::Bad(i)) => Err(TreeRefusal::Chart(i)),
+        Ok(()) => {
+            let chart = Chart {
+                table,
+                numbers: chart,
+                count,
+            };
+            write_root(chart, root, out)
+        }
+    }
 }

@@ -24,15 +24,17 @@ module _ {t ws K : List ℕ} {goal : CodedItem} {r rule : ℕ} {d : Daughters} {
   leads c = rw (e, S.chosen, S.turn)
 
 module _ {t ws order K : List ℕ} {goal : CodedItem} {f rule : ℕ} {la : Look} where
-  -- a function is begun
-  pub begun : Walking t ws order K goal → f < length order → rule ≡ get_or order f 0 → Seeks t ws rule goal (none_of (rank_of t rule)) 0 K la
-      → One t ws order K goal f rule la
-  begun W below e S = record {
-    walking = W;
-    below = below;
-    rule_is = e;
-    seeks = subst (λ (r : ℕ). Seeks t ws r goal (none_of (rank_of t r)) 0 K la) e S;
-  }
+  -- the function at place f is begun
+  pub begun : {i : ℕ} → Walking t ws order K goal → f < length order → rule ≡ get_or order i 0 → i ≡ f
+      → Seeks t ws rule goal (none_of (rank_of t rule)) 0 K la → One t ws order K goal f rule la
+  begun W below e g S =
+      let rule_is : rule ≡ get_or order f 0 = subst (λ (k : ℕ). rule ≡ get_or order k 0) g e in
+      record {
+        walking = W;
+        below = below;
+        rule_is = rule_is;
+        seeks = subst (λ (r : ℕ). Seeks t ws r goal (none_of (rank_of t r)) 0 K la) rule_is S;
+      }
 
   -- the first daughter is taken
   pub taken-one : One t ws order K goal f rule la → (a : ℕ) → a < la.spots.hi → {lb : Look}

@@ -1,4 +1,5 @@
 -- `chosen::walk::walk` meets its contract: nothing that was passed gives the item.
+use native.Mathlib.Omega.{arith}
 use Rattle.phrase.proofs.Fit.{said-yes, said-no}
 use Rattle.chosen.specs.Walk as spec
 use Rattle.chosen.proofs.Steps.{a_first, b-first, c-first, c-next, b-next, a-next, f-next, works}
@@ -7,7 +8,7 @@ use Rattle.chosen.proofs.walk.walk.Goals as goal
 
 pub loop-a-init : goal.loop-a-init
 loop-a-init c = let inv = c.walk.invariant in
-    let one = begun inv.0 c.walk-test.true c.from.ensures c.begin-la.ensures in
+    let one = begun inv.0 c.walk-test.true c.from.ensures (omega arith) c.begin-la.ensures in
     (one, inv.1, a_first one inv.2 c.first-a.ensures)
 
 pub loop-b-init : goal.loop-b-init

@@ -124,3 +124,7 @@ module _ (t c : List ℕ) (i n : ℕ) (ranked : n ≡ rank t (function_at c i)) 
   -- past the last place there is no daughter
   pub daughters-end : {k count : ℕ} → length places ≤ k → i < count → 12 * count ≤ length c → n ≤ 3 → rank t (function_at c i) ≤ k
   daughters-end {k} h l s m = let z : n ≤ k = omega (arith, places-size) in rw (← ranked) z
+
+-- a place that is that of a lower record
+pub lower-there : (c : List ℕ) (i j k : ℕ) {t : ℕ} → j ≡ k → height_at c k < height_at c i → height_at c i ≡ t → height_at c j < t
+lower-there c i j k e h d = rw (e, ← d) h

@@ -1,5 +1,5 @@
 -- What each step of the recursion has written: nothing where there is no room, a node, one daughter's tree more, the whole.
-use mathlib.Core.Path.{sym, subst}
+use mathlib.Core.Path.{◌≡◌, sym, subst}
 use mathlib.Core.List.{List}
 use Prim.Native.Nat.{ℕ, ◌+◌, ◌≤◌, ◌<◌}
 use lib.ListN.{length, set}
@@ -14,10 +14,12 @@ module _ (t c : List ℕ) (count : ℕ) (falls : Falling t c count) (i : ℕ) (h
   pub none-of-it : (s : List ℕ) (p : ℕ) → length s ≤ p → Wrote (nodes (grammar_of t) c count i) s p s None
   none-of-it s p l = rw (nodes-are t c count falls i 3 h (falls.three i h)) (no-room-for s p _ _ l)
 
-  pub one-daughter : (k : ℕ) {s : List ℕ} {p : ℕ} {u : List ℕ} {q : ℕ} {v : List ℕ} {r : Option ℕ} → k < rank t (function_at c i)
-      → Wrote (first_trees t c count i k) s p u (Some q) → Wrote (nodes (grammar_of t) c count (place_at c i k)) u q v r
+  pub one-daughter : (k : ℕ) {j : ℕ} {s : List ℕ} {p : ℕ} {u : List ℕ} {q : ℕ} {v : List ℕ} {r : Option ℕ} → k < rank t (function_at c i)
+      → Wrote (first_trees t c count i k) s p u (Some q) → j ≡ place_at c i k → Wrote (nodes (grammar_of t) c count j) u q v r
       → Wrote (first_trees t c count i (k + 1)) s p v r
-  one-daughter k {s} {p} {u} {q} {v} {r} l w w' = subst (λ (ns : List ℕ). Wrote ns s p v r) (sym (nodes-more t c count falls i k h l)) (then w w')
+  one-daughter k {j} {s} {p} {u} {q} {v} {r} l w e w' =
+      let last : Wrote (nodes (grammar_of t) c count (place_at c i k)) u q v r = subst (λ (x : ℕ). Wrote (nodes (grammar_of t) c count x) u q v r) e w' in
+      subst (λ (ns : List ℕ). Wrote ns s p v r) (sym (nodes-more t c count falls i k h l)) (then w last)
 
   pub all-daughters : (k : ℕ) (s : List ℕ) (p : ℕ) {u : List ℕ} {r : Option ℕ} → p < length s → rank t (function_at c i) ≤ k
       → Wrote (first_trees t c count i k) (set s p (function_at c i)) (p + 1) u r → Wrote (nodes (grammar_of t) c count i) s p u r
